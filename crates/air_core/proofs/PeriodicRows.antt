@@ -18,7 +18,7 @@ HasRows-more old mid new columns i at_row c v lt is value push h = record {
   each = rw (take_more columns i c lt, map-append, map-append, h.each, ← is, value);
 }
 
--- a row put into an empty list is the list
+-- a row appended to an empty list is the list
 pub row_made : {T C : Type 0} (old new : List T) (columns : List C) (at_row : C → Option T)
     → old ≡ [] → HasRows old columns at_row new → map Some new ≡ map at_row columns
 row_made old new columns at_row none h = ap (map Some) (h.after ∙ ap (λ xs. xs ++ h.added) none) ∙ h.each

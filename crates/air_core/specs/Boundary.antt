@@ -1,4 +1,4 @@
--- Which cells of a trace are refused, and by which error.
+-- Which lists of boundary values are refused, and with which error.
 use Rattle.std.specs.Prelude.{◌≡◌, ◌≢◌, ℕ, ◌-◌, ◌<◌, ◌≤◌, List, length, take, codes, All, HoldsAt}
 use Rattle.air_core.specs.FirstOnes.{EachOfFirst}
 use Rattle.air_core.specs.declared.boundary.BoundaryEnd.{BoundaryEnd}
@@ -17,7 +17,7 @@ abbrev pub end_text : BoundaryEnd → List ℕ
 end_text First = codes "First"
 end_text Last = codes "Last"
 
--- some cell of the list stands at this column and end
+-- some cell of the list has this column and end
 pub record HasCellAt (cells : List BoundaryPublic) (column : ℕ) (end : BoundaryEnd) : Type 0 where
   pub place : ℕ
   pub within : place < length cells
@@ -28,7 +28,7 @@ pub record HasCellAt (cells : List BoundaryPublic) (column : ℕ) (end : Boundar
 abbrev pub LacksCellAt : List BoundaryPublic → ℕ → BoundaryEnd → Type 0
 LacksCellAt cells column end = All (λ cell. cell.column ≡ column → cell.end ≢ end) cells
 
--- the cell is in a trace of this width, holds a public value that is there, and isn't among the earlier ones
+-- the cell has a column below the width, names an existing public value, and differs from the earlier cells
 pub record IsSoundCell (width values : ℕ) (earlier : List BoundaryPublic) (cell : BoundaryPublic) : Type 0 where
   pub column_in : cell.column < width
   pub value_in : cell.public_value < values

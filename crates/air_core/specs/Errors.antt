@@ -1,4 +1,4 @@
--- What a refusal from below is to a builder.
+-- The builder's errors for errors of rings and matrices.
 use Rattle.air_field.specs.declared.errors.RingError.{RingError}
 use Rattle.air_field.specs.declared.errors.RingError.TheVariants as ring
 use Rattle.air_field.specs.declared.errors.MatrixError.{MatrixError}
@@ -6,11 +6,11 @@ use Rattle.air_field.specs.declared.errors.MatrixError.TheVariants as matrix
 use Rattle.air_core.specs.declared.errors.AirError.{AirError}
 use Rattle.air_core.specs.declared.errors.AirError.TheVariants as air
 
--- what a refusal of a ring is to a builder
+-- the builder's error for an error of a ring
 abbrev pub air_error : RingError → AirError
 air_error ring.Memory = air.Memory
 air_error ring.DegreeOverflow = air.DegreeOverflow
 
--- what a refusal of a matrix is to a builder
+-- the builder's error for an error of a matrix
 abbrev pub matrix_air_error : MatrixError → AirError
 matrix_air_error (matrix.Ragged len width) = air.Ragged len width

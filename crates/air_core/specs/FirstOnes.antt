@@ -1,4 +1,4 @@
--- What holds of the first elements of a list.
+-- A property of the first elements of a list.
 use Rattle.std.specs.Prelude.{ℕ, ◌<◌, List, HoldsAt}
 
 -- P k holds of the element at k, for each k below n

@@ -1,4 +1,4 @@
-//! Cells of a trace's first and last row that hold public values.
+//! Boundary values: cells of a trace's first and last row that hold public values.
 ghost use Rattle.std.specs.Prelude.{◌≡◌, ◌-◌, ◌<◌, ◌↔◌, Some, MatchBool, IsOk, IfErr};
 ghost use Rattle.air_core.specs.Boundary.{row_of, end_text, HasCellAt, LacksCellAt, AreSound, IsFirstFault};
 
@@ -24,8 +24,8 @@ impl Display for BoundaryEnd {
     }
 }
 
-/// A cell of the main trace that is to hold a public value. That an AIR lists it asserts no constraint: a check and an
-/// audit compare the two, and a prover does so only where it says that it binds such cells.
+/// A boundary value: a cell of the main trace that is to hold a public value. Listing one in an AIR adds no constraint.
+/// A check and an audit compare the two values; a prover does so only if it says that it binds boundary values.
 #[derive(Clone, Copy, Debug, PartialEq, Eq, Hash)]
 pub struct BoundaryPublic {
     pub column: usize,
@@ -35,8 +35,8 @@ pub struct BoundaryPublic {
 }
 
 impl BoundaryPublic {
-    /// The cell of a column at an end, and the index of the public value that it holds. Nothing is checked here: see
-    /// [`validate`].
+    /// The boundary value in this column at this end, and the index of the public value that it holds. Not checked
+    /// here: see [`validate`].
     pub fn new(column: usize, end: BoundaryEnd, public_value: usize) -> Self
         ensures { result ≡ record { column = column; end = end; public_value = public_value } }
     {
@@ -47,7 +47,7 @@ impl BoundaryPublic {
         }
     }
 
-    /// The cell's row in a trace of this height, which must be positive: 0, or `height` - 1.
+    /// The row of the boundary value in a trace of this height, which must be positive: 0, or `height` - 1.
     pub fn row(&self, height: usize) -> usize
         requires { 0 < height }
         ensures { result ≡ row_of self.now.end height }
@@ -59,22 +59,22 @@ impl BoundaryPublic {
     }
 }
 
-/// Why a list of cells is refused.
+/// Why a list of boundary values is refused.
 #[derive(Clone, Copy, Debug, PartialEq, Eq, Error)]
 pub enum BoundaryIoError {
-    /// A cell's column is at or past the width.
+    /// A column is not below the width.
     #[error("boundary-IO column {column} is out of range for main width {width}")]
     ColumnOutOfRange {
         column: usize,
         width: usize,
     },
-    /// A cell's public value is at or past their count.
+    /// The index of a public value is not below their number.
     #[error("boundary-IO public value {index} is out of range for {num_public_values} public values")]
     PublicValueOutOfRange {
         index: usize,
         num_public_values: usize,
     },
-    /// An earlier cell has the same column and end.
+    /// An earlier boundary value has the same column and end.
     #[error("boundary-IO declares column {column} twice on the {end} row")]
     DuplicateCell {
         column: usize,
@@ -82,7 +82,7 @@ pub enum BoundaryIoError {
     },
 }
 
-// Whether a cell has this column and end.
+// Whether some boundary value has this column and end.
 fn contains_place(cells: &[BoundaryPublic], column: usize, end: BoundaryEnd) -> bool
     ensures { MatchBool result (HasCellAt cells.now column end) (LacksCellAt cells.now column end) }
 {
@@ -91,13 +91,13 @@ fn contains_place(cells: &[BoundaryPublic], column: usize, end: BoundaryEnd) -> 
         .any(|cell| cell.column == column && cell.end == end)
 }
 
-/// Checks that each cell is in the trace, holds a public value that is there, and stands once. The cells are the AIR's,
-/// never the witness's, and nothing else ties them to its trace. It takes no memory.
+/// Checks that each boundary value has a column of the trace, names an existing public value, and occurs once. The list
+/// comes from the AIR, never from the witness, and nothing else ties it to the AIR's trace. Allocates nothing.
 ///
 /// # Errors
 ///
-/// The first cell at fault: its column is past the main trace's, else its public value is none of those that the AIR
-/// has, else an earlier cell is at its column and end.
+/// The first fault of the first boundary value that has one: the column is not below `width`, else the index of the
+/// public value is not below `num_public_values`, else an earlier boundary value has the same column and end.
 pub fn validate(
     cells: &[BoundaryPublic],
     width: usize,

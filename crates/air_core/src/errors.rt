@@ -1,4 +1,4 @@
-//! What a builder and the calls on an AIR refuse.
+//! The errors of builders and of calls on an AIR.
 ghost use Rattle.air_core.specs.Errors.{air_error, matrix_air_error};
 ghost use Rattle.air_core.specs.declared.errors.AirError.TheVariants.{Memory, Boundary};
 ghost use Rattle.std.specs.Prelude.{◌≡◌};
@@ -10,30 +10,30 @@ use air_field::{MatrixError, RingError};
 use std::alloc::{AllocError, AllocFailed};
 use thiserror::Error;
 
-/// Why a builder, or a call on an AIR, gave up.
+/// Why a builder, or a call on an AIR, failed.
 #[derive(Clone, Copy, Debug, PartialEq, Eq, Error)]
 pub enum AirError {
-    /// A growth was refused.
+    /// Out of memory.
     #[error("memory was refused")]
     Memory,
-    /// A degree passes `usize`.
+    /// A degree exceeds `usize`.
     #[error("a degree passes the greatest count")]
     DegreeOverflow,
-    /// The count of constraints passes `usize`.
+    /// The number of constraints exceeds `usize`.
     #[error("the count of constraints passes the greatest count")]
     CountOverflow,
-    /// There is no such entry.
+    /// The entry has no such index.
     #[error("entry {entry:?} has no index {index}")]
     MissingEntry {
         entry: BaseEntry,
         index: usize,
     },
-    /// A window has the rows 0 and 1 alone.
+    /// A window has only the rows 0 and 1.
     #[error("a window has no row {offset}")]
     RowOffset {
         offset: usize,
     },
-    /// There is no such entry over the extension.
+    /// The entry over the extension has no such index.
     #[error("entry {entry:?} has no index {index}")]
     MissingExtEntry {
         entry: ExtEntry,
@@ -48,59 +48,59 @@ pub enum AirError {
         layout: usize,
         air: usize,
     },
-    /// The layout's count of public values isn't the AIR's.
+    /// The layout's number of public values isn't the AIR's.
     #[error("the layout has {layout} public values, the AIR {air}")]
     LayoutPublicValues {
         layout: usize,
         air: usize,
     },
-    /// The layout's count of periodic columns isn't the AIR's.
+    /// The layout's number of periodic columns isn't the AIR's.
     #[error("the layout has {layout} periodic columns, the AIR {air}")]
     LayoutPeriodicColumns {
         layout: usize,
         air: usize,
     },
-    /// An expression is used in constraints other than those that made it.
+    /// An expression is used in constraints other than those it was made in.
     #[error("an expression of other constraints is used")]
     ForeignExpression,
-    /// A constraint's index is at or past their count.
+    /// A constraint index is not below the number of constraints.
     #[error("constraint index {index} is past the total of {total}")]
     IndexPastTotal {
         index: usize,
         total: usize,
     },
-    /// The preprocessed table has another height than the trace.
+    /// The preprocessed trace and the main trace differ in height.
     #[error("the preprocessed table has {preprocessed} rows, the trace {main}")]
     PreprocessedHeight {
         preprocessed: usize,
         main: usize,
     },
-    /// A period is no power of two.
+    /// The length of a periodic column is no power of two.
     #[error("periodic column {index} has length {length}, no power of two")]
     PeriodNotPowerOfTwo {
         index: usize,
         length: usize,
     },
-    /// A period doesn't divide the trace's height.
+    /// The length of a periodic column doesn't divide the trace's height.
     #[error("periodic column {index} has length {length}, which doesn't divide the height {height}")]
     PeriodDoesNotDivide {
         index: usize,
         length: usize,
         height: usize,
     },
-    /// A boundary cell is refused.
+    /// The list of boundary values is refused.
     #[error(transparent)]
     Boundary(BoundaryIoError),
-    /// A boundary cell is listed, and the trace has no rows.
+    /// There are boundary values, and the trace has no rows.
     #[error("a boundary cell is listed, and the trace has no rows")]
     EmptyTrace,
-    /// So many values fill no whole rows of this width.
+    /// `len` values don't fill whole rows of this width.
     #[error("{len} values are no whole rows of width {width}")]
     Ragged {
         len: usize,
         width: usize,
     },
-    /// So many values aren't two rows of this width.
+    /// `len` values aren't two rows of this width.
     #[error("{len} values are no two rows of width {width}")]
     WindowShape {
         len: usize,
@@ -111,29 +111,29 @@ pub enum AirError {
     EmptyPeriodicColumn {
         index: usize,
     },
-    /// A wire value hasn't its form.
+    /// A wire value has the wrong form.
     #[error("the value at place {at} hasn't its form")]
     Shape {
         at: usize,
     },
-    /// A flat list has no node.
+    /// A list of nodes is empty.
     #[error("the list of nodes is empty")]
     EmptyList,
-    /// An operand of a node stands at the node's own place in its list, or past it. Where that list stands inside a
-    /// Base leaf, `at` is the place of the leaf's node, and the operand that in the list inside.
+    /// An operand of a node isn't earlier in the list than the node. For a list nested in a `Base` leaf, `at` is the
+    /// place of the leaf's node, and `operand` is relative to the nested list.
     #[error("the node at place {at} has the operand {operand}, which doesn't stand before it")]
     Operand {
         at: usize,
         operand: usize,
     },
-    /// A node states another degree than it has.
+    /// A node states a degree that isn't its own.
     #[error("the node at place {at} states degree {stated}, and has {found}")]
     WrongDegree {
         at: usize,
         stated: usize,
         found: usize,
     },
-    /// A field number is at or past the modulus.
+    /// A field number is not below the modulus.
     #[error("the value at place {at} has a number at or past the modulus")]
     NotCanonical {
         at: usize,
@@ -148,7 +148,7 @@ impl From<AllocError> for AirError {
     }
 }
 
-// So that a list's growth is refused by `?` too, which hands the item back.
+// So that `?` also works on a failed push, whose error gives the item back.
 impl<T: Drop> From<AllocFailed<T>> for AirError {
     ghost from_gives = { λ _ a. a ≡ Memory };
 

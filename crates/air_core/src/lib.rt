@@ -1,5 +1,5 @@
-//! What AIRs, builders and pools all speak of: the entries of a builder and the variables that name a place in them,
-//! windows on rows, periodic columns, boundary cells, names of constraints, and the errors.
+//! What AIRs, builders and pools share: the entries of a builder and the variables that index into them, windows on
+//! rows, periodic columns, boundary values, names of constraints, and errors.
 #![tactic(auto)]
 
 pub mod boundary;

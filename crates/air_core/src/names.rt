@@ -1,4 +1,4 @@
-//! Names of constraints, which a builder evaluates where it needs a label: the debug builder where a constraint fails.
+//! Names of constraints. A builder evaluates one only when it needs a label: the debug builder when a constraint fails.
 
 pub mod element;
 pub mod joined;

@@ -6,7 +6,7 @@ use crate::errors::AirError;
 use air_field::RowMajorMatrix;
 use std::alloc::Global;
 
-/// Appends each column's value at the row. The first empty column is refused.
+/// Appends each column's value at the row. Fails at the first empty column.
 fn push_row<T: Copy>(values: &mut Vec<T>, columns: &[Vec<T>], row: usize) -> Result<(), AirError>
     ensures rows { OnOk result (HasRows values.old.items columns.now (column_at row)
         values.new.items) }
@@ -21,8 +21,8 @@ fn push_row<T: Copy>(values: &mut Vec<T>, columns: &[Vec<T>], row: usize) -> Res
     Ok(())
 }
 
-/// Each periodic column's value at the row: the column at the row modulo its length. The first empty column is refused
-/// with `EmptyPeriodicColumn`, and want of memory with `Memory`.
+/// The value of each periodic column at the row: its element at `row` modulo its length. Fails with
+/// `EmptyPeriodicColumn` for the first empty column, or with `Memory`.
 pub fn periodic_row<T: Copy>(
     alloc: Global,
     columns: &[Vec<T>],
@@ -35,9 +35,8 @@ pub fn periodic_row<T: Copy>(
     Ok(values)
 }
 
-/// Makes a list that of [`periodic_row`], whatever it held: it asks for memory only where the list has no room for the
-/// columns. The first empty column is refused with `EmptyPeriodicColumn`, and want of memory with `Memory`; the list
-/// then holds no row.
+/// Replaces the list's contents by [`periodic_row`], and allocates only if the list has no room for the columns. Fails
+/// with `EmptyPeriodicColumn` for the first empty column, or with `Memory`; the list's contents are then unspecified.
 pub fn fill_periodic_row<T: Copy>(
     values: &mut Vec<T>,
     columns: &[Vec<T>],
@@ -50,7 +49,7 @@ pub fn fill_periodic_row<T: Copy>(
     push_row(values, columns, row)
 }
 
-/// The greatest period, 0 without columns.
+/// The greatest period, 0 if there are no columns.
 fn greatest_period<T: Copy>(columns: &[Vec<T>]) -> usize
     ensures { IsGreatestPeriod columns.now result }
 {
@@ -63,8 +62,8 @@ fn greatest_period<T: Copy>(columns: &[Vec<T>]) -> usize
     greatest
 }
 
-/// The periodic columns as a matrix that has as many rows as the greatest period; None without columns. The first empty
-/// column is refused where another isn't empty, with `EmptyPeriodicColumn`, and want of memory with `Memory`.
+/// The periodic columns as a matrix of as many rows as the greatest period; `None` if there are no columns. Fails with
+/// `EmptyPeriodicColumn` for the first empty column, but only if another one isn't empty, or with `Memory`.
 pub fn periodic_matrix<T: Copy>(
     alloc: Global,
     columns: &[Vec<T>],

@@ -1,4 +1,4 @@
-//! Variables: which entry of a builder an expression names, and its weight in a degree.
+//! Variables: indexes into the entries of a builder, and their weights in a degree.
 
 pub mod entry;
 pub mod ext_entry;

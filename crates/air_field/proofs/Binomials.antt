@@ -49,7 +49,7 @@ four_differences {M = M} {mo = mo} p q a b c d e f g h hp hq =
     by_four (λ m. modular_add (residues mo) (get_or p 0 a) (modular_neg (residues mo) (get_or m 0 e)) ∷ modular_add (residues mo) (get_or p 1 b) (modular_neg (residues mo) (get_or m 1 f)) ∷ modular_add (residues mo) (get_or p 2 c) (modular_neg (residues mo) (get_or m 2 g)) ∷ modular_add (residues mo) (get_or p 3 d) (modular_neg (residues mo) (get_or m 3 h)) ∷ [] ≡ poly_add (ops (residue_ring mo)) p (poly_neg (ops (residue_ring mo)) m))
     (λ w x y z. four_sums p (modular_neg (residues mo) w ∷ modular_neg (residues mo) x ∷ modular_neg (residues mo) y ∷ modular_neg (residues mo) z ∷ []) a b c d e f g h hp refl) q hq
 
--- what the test for the base field tells
+-- the test for the base field is exact
 base_at : {M : Type 0} {mo : Ghosts M} (l : List (Residue M mo)) (r : Bool) (x y z : Residue M mo) → length l ≡ 4 → x ≡ residue_class mo 0 → y ≡ residue_class mo 0 → z ≡ residue_class mo 0
     → r ≡ pointwise (λ (s t : Residue M mo). eqb s.residue t.residue) (take 3 (drop 1 l)) (x ∷ y ∷ z ∷ [])
     → Decides r ((s : Residue M mo) × (l ≡ (constant_polynomial s).value))
@@ -80,7 +80,7 @@ nested mo w x y z =
 abbrev pub product_at : {M : Type 0} {mo : Ghosts M} → List (Residue M mo) → List (Residue M mo) → ℕ → (Residue M mo) → (Residue M mo) → ℕ
 product_at {M = M} {mo = mo} p q k a b = (get_or p k a).residue * (get_or q k b).residue
 
--- one reduction of four products is the sum of their classes
+-- one reduction of the sum of four products is the sum of their classes
 pub dot_reduced : {M : Type 0} {mo : Ghosts M} (r : Residue M mo) (p q : List (Residue M mo)) (a b c d e f g h : Residue M mo) → length p ≡ 4 → length q ≡ 4
     → r.residue ≡ (product_at p q 0 a e + product_at p q 1 b f + product_at p q 2 c g + product_at p q 3 d h) % mo.P
     → r ≡ dot (ops (residue_ring mo)) p q

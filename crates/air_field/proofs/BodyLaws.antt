@@ -1,4 +1,4 @@
--- what the bodies of a ring's calls make, step by step
+-- What the default bodies of a ring's calls make, step by step.
 use Rattle.std.proofs.Common.{Result, IfOk, IfErr}
 use Rattle.std.proofs.lemmas.Result.{IfOk-weaker, IfErr-weaker}
 use Rattle.air_field.specs.Term.{Term, const_term, add_term, sub_term, mul_term}
@@ -8,7 +8,7 @@ use Rattle.air_field.specs.Algebra.{AlgebraLaws, Made, MadeOf, MadeOfBoth, Refus
 module _ {R E F X : Type 0} {valid : R → Type 0} {has : R → E → Type 0} {means : R → E → Term F → Type 0} {extends : R → R → Type 0} {refuses : X → Term F → Type 0} (laws : AlgebraLaws valid has means extends refuses) where
   -- through the ring at p, q, s, u, v: the sum, the product, twice the product, the difference
   module _ (p q s u v : R) (x y sum product twice : E) (added : extends p q) (multiplied : extends q s) (doubled : extends s u) where
-    -- what the difference answers is the exclusive or, or is refused as it
+    -- the answer of the difference is the exclusive or, or an error that it allows
     pub xor_answers : (r : Result E X) → MadeOfBoth has means add_term p q x y sum → MadeOfBoth has means mul_term q s x y product → MadeOf has means double_term s u product twice
         → IfOk r (MadeOfBoth has means sub_term u v sum twice) → IfErr r (RefusedOfBoth means refuses sub_term u sum twice)
         → IfOk r (MadeOfBoth has means xor_term p v x y) × IfErr r (RefusedOfBoth means refuses xor_term p x y)
@@ -36,7 +36,7 @@ module _ {R E F X : Type 0} {valid : R → Type 0} {has : R → E → Type 0} {m
 
   -- through the ring at p, q, s, u: one, one less x, the product
   module _ (one : F) (p q s u : R) (x y unit rest : E) (begun : extends p q) (made_unit : Made has means (const_term one) q unit) where
-    -- what the product answers is the term, or is refused as it
+    -- the answer of the product is the term, or an error that it allows
     pub andn_answers : (r : Result E X) → extends q s → MadeOfBoth has means sub_term q s unit x rest
         → IfOk r (MadeOfBoth has means mul_term s u rest y) → IfErr r (RefusedOfBoth means refuses mul_term s rest y)
         → IfOk r (MadeOfBoth has means (andn_term one) p u x y) × IfErr r (RefusedOfBoth means refuses (andn_term one) p x y)

@@ -1,4 +1,4 @@
--- joining elements from the left, one by one
+-- Joining elements from the left, one by one.
 use Rattle.std.specs.List.{AllZip}
 use Rattle.std.specs.Result.{IsErrAnd}
 use Rattle.std.proofs.lemmas.Result.{err_from_is_err_and}
@@ -8,7 +8,7 @@ use Rattle.air_field.specs.Part.{Part, whole, in_add_left, in_mul_left}
 use Rattle.air_field.specs.Algebra.{AlgebraLaws, MadeOfBoth, RefusedOfBoth}
 use Rattle.air_field.specs.Joins.{join_from, join_terms, RefusedOfAll}
 
--- total means a term t, and what is left means terms us, which joined to t make the goal
+-- total means a term t, the remaining elements mean terms us, and joining these to t makes the goal
 pub record Leads {E F : Type 0} (means : E → Term F → Type 0) (op : Term F → Term F → Term F) (total : E) (left : List E) (goal : Term F) : Type 0 where
   pub t : Term F
   pub us : List (Term F)
@@ -16,7 +16,7 @@ pub record Leads {E F : Type 0} (means : E → Term F → Type 0) (op : Term F �
   pub left_means : AllZip means left us
   pub joined : join_from op t us ≡ goal
 
--- total is the join of what was taken, and the rest is left
+-- total is the join of the elements taken so far, and the others remain
 pub record IsJoining {R E F : Type 0} (has : R → E → Type 0) (means : R → E → Term F → Type 0) (extends : R → R → Type 0) (op : Term F → Term F → Term F) (none : F) (old new : R) (xs : List E) (total : E) (left : List E) : Type 0 where
   pub extended : extends old new
   pub total_in : has new total
@@ -29,7 +29,7 @@ first_of_all P x xs h = h 0 x (omega arith)
 rest_of_all : {X : Type 0} (P : X → Type 0) (x : X) (xs : List X) → All P (x ∷ xs) → All P xs
 rest_of_all P x xs h k d lt = h (suc k) d (omega arith)
 
--- a part of what is joined first is a part of the whole
+-- a part of the first term is a part of the join
 part-join_from : {F : Type 0} (op : Term F → Term F → Term F) → ((s t u : Term F) → Part s t → Part s (op t u))
     → (s t : Term F) (us : List (Term F)) → Part s t → Part s (join_from op t us)
 part-join_from op inside s t [] h = h
@@ -41,7 +41,7 @@ part-add_left s t u h = in_add_left h
 pub part-mul_left : {F : Type 0} (s t u : Term F) → Part s t → Part s (mul_term t u)
 part-mul_left s t u h = in_mul_left h
 
--- what is left from an item on begins with it
+-- the list from item i on begins with that item
 drop_item : {X : Type 0} (l : List X) (i : ℕ) (x : X) → i < length l → x ≡ get_or l i x → drop i l ≡ x ∷ drop (i + 1) l
 drop_item l i x h is = drop-cons l i x h ∙ (ap (λ y. y ∷ drop (suc i) l) (sym is) ∙ ap (λ n. x ∷ drop n l) (sym (add-one i)))
 
@@ -71,7 +71,7 @@ module _ {R E F X : Type 0} {valid : R → Type 0} {has : R → E → Type 0} {m
   take_leads p q total x z left goal g made t (u ∷ us) m h e =
       record { t = op t u; us = us; total_means = made.1 t u m h.0; left_means = all_mean_still p q left us g h.1; joined = e }
 
-  -- what is left begins with the item at place i, which is taken
+  -- the item at place i is taken from the front of the remaining ones
   pub take_one : {first p q : R} {xs : List E} {total x z : E} (rest : List E) (i : ℕ) → i < length rest → x ≡ get_or rest i x → extends p q → MadeOfBoth has means op p q total x z
       → IsJoining has means extends op none first p xs total (drop i rest) → IsJoining has means extends op none first q xs z (drop (i + 1) rest)
   take_one {first = first} {p = p} {q = q} {xs = xs} {total = total} {x = x} {z = z} rest i b is g made before =
@@ -92,7 +92,7 @@ module _ {R E F X : Type 0} {valid : R → Type 0} {has : R → E → Type 0} {m
   refused_leads p e total x left goal inside refused t (u ∷ us) m h same =
       laws.refuses_whole e (op t u) goal (subst (Part (op t u)) same (part-join_from op inside (op t u) (op t u) us whole)) (refused t u m h.0)
 
-  -- what an exit answers where joining that item is refused
+  -- the error of an exit, where joining that item fails
   pub join_refused : {first p : R} {xs : List E} {e : X} {total x : E} (rest : List E) (i : ℕ) → i < length rest → x ≡ get_or rest i x → ((s t u : Term F) → Part s t → Part s (op t u)) → RefusedOfBoth means refuses op p total x e
       → IsJoining has means extends op none first p xs total (drop i rest) → (r : Result E X) → IsErrAnd r (λ o. o ≡ e) → IfErr r (RefusedOfAll means refuses op none first xs)
   join_refused {first = first} {p = p} {xs = xs} {e = e} {total = total} {x = x} rest i b is inside refused before r exit =

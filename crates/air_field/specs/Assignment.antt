@@ -1,10 +1,10 @@
--- What stands at the leaves at a row of a trace, and which leaves have no entry.
+-- The values of the leaves at a row of a trace, and which leaves have no entry.
 use Rattle.std.specs.Prelude.{ℕ, zero, suc, ◌+◌, ◌%◌, ◌≤◌, ◌==◌, Bool, ⊤, List, [], map, length, Option, Some, None, slice_get, slice_index_or, if◌then◌else◌}
 use Rattle.air_field.specs.Ring.{CommRing}
 use Rattle.air_field.specs.Term.{Leaf, preprocessed, main, periodic, public, first_row, last_row, transition, permutation, challenge, permutation_value}
 use Rattle.air_field.specs.Grid.{Grid}
 
--- how many entries of each kind there are
+-- the number of entries of each kind
 pub record Shape : Type 0 where
   pub main_width : ℕ
   pub preprocessed_width : ℕ
@@ -14,7 +14,7 @@ pub record Shape : Type 0 where
   pub challenges : ℕ
   pub permutation_values : ℕ
 
--- a column of rows of this width, at an offset: there are two rows
+-- column i at an offset is out of range: i is not below the width, or the offset is past 1
 abbrev pub IsPastRow : ℕ → ℕ → ℕ → Type 0
 IsPastRow width zero i = width ≤ i
 IsPastRow width (suc zero) i = width ≤ i
@@ -33,7 +33,7 @@ IsMissing s (permutation o i) = IsPastRow s.permutation_width o i
 IsMissing s (challenge i) = s.challenges ≤ i
 IsMissing s (permutation_value i) = s.permutation_values ≤ i
 
--- what a builder holds of one row: the row and the one after it, and the values that stand beside them
+-- the values that a builder has at one row: this row, the next one, and the values beside them
 pub record RowValues (F : Type 0) : Type 0 where
   pub current : List F
   pub next : List F
@@ -45,13 +45,13 @@ pub record RowValues (F : Type 0) : Type 0 where
   pub on_last_row : F
   pub on_transition : F
 
--- a column of two rows, z where there is none
+-- column i of this row or the next one, z where there is none
 abbrev pub column_value : {F : Type 0} → F → List F → List F → ℕ → ℕ → F
 column_value z current next zero i = slice_index_or current i z
 column_value z current next (suc zero) i = slice_index_or next i z
 column_value z current next (suc (suc o)) i = z
 
--- what stands at a leaf; a missing entry reads as z, which is zero
+-- the value of a leaf; a missing entry reads as z, which is zero
 abbrev pub leaf_value : {F : Type 0} → F → RowValues F → Leaf → F
 leaf_value z v (preprocessed o i) = column_value z v.preprocessed_current v.preprocessed_next o i
 leaf_value z v (main o i) = column_value z v.current v.next o i
@@ -64,7 +64,7 @@ leaf_value z v (permutation o i) = z
 leaf_value z v (challenge i) = z
 leaf_value z v (permutation_value i) = z
 
--- a whole trace: its rows, the preprocessed rows, the periodic columns and the public values
+-- a whole trace: the main rows, the preprocessed rows, the periodic columns and the public values
 pub record Trace (F : Type 0) : Type 0 where
   pub main_trace : Grid F
   pub preprocessed_trace : Grid F
@@ -82,17 +82,17 @@ trace_shape t = record {
   permutation_values = 0;
 }
 
--- the row, and nothing past the end
+-- the row, or the empty list past the end
 abbrev pub row_or_none : {F : Type 0} → Option (List F) → List F
 row_or_none None = []
 row_or_none (Some row) = row
 
--- one where the test holds, else zero
+-- one if the test holds, else zero
 abbrev pub selector : {F : Type 0} → CommRing F → Bool → F
 selector r b = if b then r.one else r.zero
 
--- What stands at row i of h: the row, the one after it around the end, each periodic column at i modulo its length,
--- and the selectors.
+-- The values at row i of h: the row, the next one (the first after the last), each periodic column at i modulo its
+-- length, and the selectors.
 abbrev pub row_at : {F : Type 0} → CommRing F → Trace F → ℕ → RowValues F
 row_at r t i =
     let h = length t.main_trace.rows in
@@ -108,6 +108,6 @@ row_at r t i =
       on_transition = if i + 1 == h then r.zero else r.one;
     }
 
--- the assignment of a row
+-- the value of each leaf at a row
 abbrev pub row_assignment : {F : Type 0} → CommRing F → Trace F → ℕ → Leaf → F
 row_assignment r t i = leaf_value r.zero (row_at r t i)

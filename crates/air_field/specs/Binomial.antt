@@ -54,7 +54,7 @@ binomial_ring m w =
       mul_add = λ a b c. same_list _ _ (four_mul_add (residue_ring m) (residue_class m w) a.value b.value c.value a.four b.four c.four);
     }
 
--- the ring, the constant polynomials in it, and the polynomial of a coefficient list
+-- the ring, the embedding of the base field as constants, and the polynomial of a coefficient list
 abbrev pub binomial_over : {M : Type 0} (m : Ghosts M) → ℕ → AlgebraOver (Residue M m) (BinomialExtension M m)
 binomial_over m w =
     record {
@@ -63,7 +63,7 @@ binomial_over m w =
       extend = λ l. of_list (pad_to (residue_class m 0) 4 l) (length-padded (residue_class m 0) 4 l);
     }
 
--- a polynomial's coefficients, and the constant that it is
+-- a polynomial's coefficients, and the constant that it equals, if there is one
 abbrev pub binomial_basis : {M : Type 0} (m : Ghosts M) → Basis (Residue M m) (BinomialExtension M m)
 binomial_basis m =
     record {

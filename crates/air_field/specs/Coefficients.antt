@@ -1,10 +1,10 @@
--- Polynomials as lists of coefficients, lowest first, and what is left of them modulo X^4 - w.
+-- Polynomials as lists of coefficients, lowest first, and their remainders modulo X^4 - w.
 use Rattle.std.specs.Prelude.{◌≡◌, ℕ, zero, suc, ◌+◌, ◌<◌, List, [], ◌∷◌, slice_index_or}
 use Rattle.air_field.specs.Ring.{CommRing}
 use Rattle.air_field.specs.RingOps.{RingOps}
 use Rattle.air_field.specs.Polynomial.{convolve}
 
--- the sum, coefficient by coefficient; a list is zero past its end
+-- the sum by coefficients; a list is zero past its end
 abbrev pub poly_add : {A : Type 0} → RingOps A → List A → List A → List A
 poly_add R [] q = q
 poly_add R (x ∷ p) [] = x ∷ p
@@ -23,13 +23,13 @@ abbrev pub poly_mul : {A : Type 0} → RingOps A → List A → List A → List 
 poly_mul R [] q = []
 poly_mul R (x ∷ p) q = poly_add R (poly_scale R x q) (R.zero ∷ poly_mul R p q)
 
--- the sum of the products of what stands at one place of both lists
+-- the sum of the products of elements with the same index
 abbrev pub dot : {A : Type 0} → RingOps A → List A → List A → A
 dot R [] q = R.zero
 dot R (x ∷ p) [] = R.zero
 dot R (x ∷ p) (y ∷ q) = R.add (R.mul x y) (dot R p q)
 
--- the first four coefficients, with w times the further ones added from the front: X^4 is w
+-- the first four coefficients, plus w times the rest, aligned at the front: X^4 is w
 abbrev pub fold_four : {A : Type 0} → RingOps A → A → List A → List A
 fold_four R w (a ∷ b ∷ c ∷ d ∷ p) = poly_add R (a ∷ b ∷ c ∷ d ∷ []) (poly_scale R w p)
 fold_four R w p = p
@@ -48,12 +48,12 @@ pad_to d zero p = []
 pad_to d (suc n) [] = d ∷ pad_to d n []
 pad_to d (suc n) (x ∷ p) = x ∷ pad_to d n p
 
--- the coefficient at a place, zero past the list's end
+-- the coefficient at an index, zero past the list's end
 abbrev pub coefficient : {A : Type 0} → A → List A → ℕ → A
 coefficient d p n = slice_index_or p n d
 
--- r is the product of p and q where X^4 is w: each of its four coefficients is the product's, with w times the one
--- that stands four places on
+-- r is the product of p and q where X^4 is w: coefficient k of r, for k below 4, is that of the product plus w times
+-- the product's coefficient k + 4
 abbrev pub IsProductModulo : {A : Type 0} → CommRing A → A → List A → List A → List A → Type 0
 IsProductModulo R w p q r =
     (k : ℕ) → k < 4 → coefficient R.zero r k

@@ -1,4 +1,4 @@
--- The degree of a term by leaf weights, and the degree that is inferred from it.
+-- The degree of a term by leaf weights, and the degree inferred from it.
 use Rattle.std.specs.Prelude.{ℕ, zero, suc, ◌+◌, ◌-◌, ◌/◌, ◌==◌, max, min, List, [], ◌∷◌, slice_index_or, if◌then◌else◌}
 use Rattle.std.specs.Int.{div_ceil}
 use Rattle.air_field.specs.Term.{Leaf, preprocessed, main, periodic, public, first_row, last_row, transition}
@@ -32,13 +32,13 @@ abbrev pub transition_weight : ℕ → Leaf → ℕ
 transition_weight w transition = w
 transition_weight w l = cached_weight l
 
--- The degree of a periodic column of period p over n rows: n - 1 without a period, else n less a p-th of n.
+-- The degree of a periodic column of period p over n rows: n - 1 for p = 0, else n - n / p, with n / p rounded down.
 abbrev pub periodic_degree : ℕ → ℕ → ℕ
 periodic_degree n zero = n - 1
 periodic_degree n (suc p) = n - n / suc p
 
--- The degrees of the leaves' polynomials over n rows, the periodic columns having these lengths: no column's period is
--- longer than the trace, and that of a column that isn't listed is the whole trace.
+-- The degrees of the leaves' polynomials over n rows, where `periods` lists the lengths of the periodic columns. A
+-- length above n counts as n, and a column that isn't listed has period n.
 abbrev pub trace_weight : ℕ → List ℕ → Leaf → ℕ
 trace_weight n periods (preprocessed o i) = n - 1
 trace_weight n periods (main o i) = n - 1
@@ -51,16 +51,16 @@ trace_weight n periods (permutation o i) = n - 1
 trace_weight n periods (challenge i) = 0
 trace_weight n periods (permutation_value i) = 0
 
--- the greatest of the degrees, 0 of none
+-- the greatest of the degrees, 0 for the empty list
 abbrev pub greatest_degree : {F : Type 0} → (Leaf → ℕ) → List (Term F) → ℕ
 greatest_degree w [] = 0
 greatest_degree w (t ∷ ts) = max (degree_by w t) (greatest_degree w ts)
 
--- the constraint degree of a polynomial of degree p over n rows: 0 for p = 0, else (p - 1) over (n - 1), rounded up
+-- the constraint degree of a polynomial of degree p over n rows: 0 for p = 0, else (p - 1) / (n - 1), rounded up
 abbrev pub quotient_degree : ℕ → ℕ → ℕ
 quotient_degree p n = if p == 0 then 0 else div_ceil (p - 1) (max (n - 1) 1)
 
--- The degree inferred for n rows: that of the greatest polynomial; where no column is periodic, no less than the
+-- The degree inferred for n rows: that of the greatest polynomial. If there are no periodic columns, it is at least the
 -- greatest cached degree.
 abbrev pub inferred_degree : {F : Type 0} → ℕ → List ℕ → List (Term F) → ℕ
 inferred_degree n [] ts = max (quotient_degree (greatest_degree (trace_weight n []) ts) n) (greatest_degree cached_weight ts)

@@ -13,11 +13,11 @@ IsNoRatio {A} R w = (x y : A) → R.mul x x ≡ R.mul w (R.mul y y) → y ≡ R.
 abbrev pub HasInverse : {A : Type 0} → CommRing A → A → Type 0
 HasInverse {A} R x = (y : A) × (R.mul x y ≡ R.one)
 
--- what an inversion answers: nothing for zero alone, else what gives one with x
+-- the answer of an inversion of x: None only for zero, else a y with x y = 1
 abbrev pub IsInversion : {A : Type 0} → CommRing A → A → Option A → Type 0
 IsInversion R x None = x ≡ R.zero
 IsInversion R x (Some y) = R.mul x y ≡ R.one
 
--- x times y is a number of the field below, which is zero only if x is
+-- x times y is an element n of the base field, and n is zero only if x is
 abbrev pub IsAdjugate : {F A : Type 0} → AlgebraOver F A → F → A → A → Type 0
 IsAdjugate {F} over zero x y = (n : F) × (over.ring.mul x y ≡ over.embed n) × (n ≡ zero → x ≡ over.ring.zero)

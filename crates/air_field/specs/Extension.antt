@@ -1,21 +1,21 @@
--- Extensions of a ring: algebras over it whose elements are the lists of so many coefficients.
+-- Extensions of a ring: algebras over it whose elements are the lists of n coefficients.
 use Rattle.std.specs.Prelude.{◌≡◌, ℕ, ◌-◌, ◌<◌, Option, Some, List, [], ◌∷◌, length, replicate}
 use Rattle.air_field.specs.Ring.{CommRing, AlgebraOver}
 use Rattle.air_field.specs.RingOps.{ops}
 use Rattle.air_field.specs.Coefficients.{poly_add, poly_scale, pad_to}
 
--- How the elements of an extension lie over F: their coefficients, lowest first, and the element of F that one is, where
--- it is one.
+-- The coefficients of an extension's elements over F, lowest first, and the element of F that one equals, if there is
+-- one.
 pub record Basis (F E : Type 0) : Type 0 where
   pub coefficients : E → List F
   pub base_part : E → Option F
 
--- A ring over itself: an element is its own coefficient, and its own part in the ring.
+-- A ring over itself: an element is its only coefficient and its own base part.
 abbrev pub own_basis : {F : Type 0} → Basis F F
 own_basis = record { coefficients = λ a. a ∷ []; base_part = λ a. Some a }
 
--- The elements are the lists of n coefficients: an element of the base ring is the list of it and zeros, sums and
--- products by an element of the base ring go coefficient by coefficient.
+-- The elements are the lists of n coefficients. An element of the base ring is the list of it and zeros; sums, and
+-- products with an element of the base ring, are taken by coefficients.
 pub record ExtensionLaws {F E : Type 0} (R : CommRing F) (a : AlgebraOver F E) (basis : Basis F E) (n : ℕ) : Type 0 where
   pub positive : 0 < n
   pub count : (x : E) → length (basis.coefficients x) ≡ n
@@ -28,6 +28,6 @@ pub record ExtensionLaws {F E : Type 0} (R : CommRing F) (a : AlgebraOver F E) (
   pub part_of : (c : F) → basis.base_part (a.embed c) ≡ Some c
   pub part_is : (x : E) (c : F) → basis.base_part x ≡ Some c → x ≡ a.embed c
 
--- it is the image of an element of the base ring
+-- x is the image of an element of the base ring
 abbrev pub IsInBase : {F E : Type 0} → AlgebraOver F E → E → Type 0
 IsInBase {F = F} a x = (c : F) × (x ≡ a.embed c)

@@ -1,10 +1,10 @@
--- The whole numbers modulo p, in whatever way a type holds them: a commutative ring.
+-- The whole numbers modulo p, however a type stores them: a commutative ring.
 use Rattle.std.specs.Prelude.{◌≡◌, ℕ, ◌+◌, ◌*◌, ◌-◌, ◌%◌, ◌<◌}
 use Rattle.std.proofs.Common.{sym, ◌∙◌, ap}
 use Rattle.air_field.specs.Ring.{CommRing}
 use Rattle.air_field.specs.laws.Residues.{add_assoc_at, add_comm_at, add_nil_at, add_neg_at, mul_assoc_at, mul_comm_at, mul_one_at, mul_add_at}
 
--- each number below p has one element of A, whose value it is
+-- each number below p is the value of exactly one element of A
 pub record Modular (A : Type 0) (p : ℕ) : Type 0 where
   pub value : A → ℕ
   pub class : ℕ → A

@@ -1,7 +1,7 @@
--- That w is no square modulo p, by computing: its power by (p - 1) / 4 is a square root of -1.
+-- A certificate that w is no square modulo p: its power by (p - 1) / 4 is a square root of -1.
 use Rattle.std.specs.Prelude.{◌≡◌, ℕ, zero, suc, ◌+◌, ◌*◌, ◌/◌, ◌%◌, ◌^◌}
 
--- b^e modulo p, which computes fast for an e of that many hexadecimal digits
+-- b^e modulo p; computes fast for an e of this many hexadecimal digits
 abbrev pub power_modulo : ℕ → ℕ → ℕ → ℕ → ℕ
 power_modulo zero b e p = b ^ e
 power_modulo (suc digits) b e p = (b ^ (e % 16) * power_modulo digits (b ^ 16 % p) (e / 16) p) % p

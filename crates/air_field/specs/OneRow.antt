@@ -1,4 +1,4 @@
--- What stands at the leaves of one row with permutation data, and which leaves have no entry there.
+-- The values of the leaves at one row with permutation data, and which leaves have no entry there.
 use Rattle.std.specs.Prelude.{List, [], length, slice_index_or}
 use Rattle.air_field.specs.Ring.{AlgebraOver}
 use Rattle.air_field.specs.Term.{Leaf, permutation, challenge, permutation_value}
@@ -11,11 +11,11 @@ pub record PermutationData (E : Type 0) : Type 0 where
   pub challenges : List E
   pub exposed : List E
 
--- where there is none
+-- the data where there is no permutation trace
 abbrev pub no_permutation : {E : Type 0} → PermutationData E
 no_permutation = record { current = []; next = []; challenges = []; exposed = [] }
 
--- how many entries of each kind there are
+-- the number of entries of each kind
 abbrev pub one_row_shape : {F E : Type 0} → RowValues F → PermutationData E → Shape
 one_row_shape v p = record {
   main_width = length v.current;
@@ -27,7 +27,7 @@ one_row_shape v p = record {
   permutation_values = length p.exposed;
 }
 
--- what stands at a leaf over the extension: the permutation data, or the image of what stands in F; a missing entry
+-- the value of a leaf over the extension: permutation data, or the image of the leaf's value in F; a missing entry
 -- reads as zero
 abbrev pub one_row_value : {F E : Type 0} → F → AlgebraOver F E → RowValues F → PermutationData E → Leaf → E
 one_row_value z a v p (permutation o i) = column_value a.ring.zero p.current p.next o i

@@ -1,7 +1,7 @@
 -- Parts of terms.
 use Rattle.air_field.specs.Term.{Term, add_term, sub_term, neg_term, mul_term}
 
--- a part of a term
+-- the first term is a part of the second
 pub data Part {F : Type 0} : Term F → Term F → Type 0 where
   whole : {t : Term F} → Part t t
   in_add_left : {t u v : Term F} → Part t u → Part t (add_term u v)

@@ -1,4 +1,4 @@
--- The polynomial of a term: a coefficient for each number.
+-- The polynomial of a term, as a function from indexes to coefficients.
 use Rattle.std.specs.Prelude.{◌≡◌, ℕ, zero, suc, ◌-◌, ◌<◌, List, [], ◌∷◌, slice_index_or}
 use Rattle.air_field.specs.Ring.{CommRing, minus, AlgebraOver}
 use Rattle.air_field.specs.Term.{Leaf, Term, leaf_term, const_term, ext_const_term, add_term, sub_term, neg_term, mul_term}
@@ -12,8 +12,8 @@ sum_to r f (suc n) = r.add (sum_to r f n) (f (suc n))
 abbrev pub convolve : {E : Type 0} → CommRing E → (ℕ → E) → (ℕ → E) → ℕ → E
 convolve r f g n = sum_to r (λ i. r.mul (f i) (g (n - i))) n
 
--- coefficient n of the term's polynomial, the leaves having the coefficient lists of s, a constant itself alone; past
--- the end of a list there are zeros
+-- coefficient n of the term's polynomial; s gives the leaves' coefficient lists, with zeros past their ends, and a
+-- constant is a constant polynomial
 abbrev pub polynomial : {F E : Type 0} → AlgebraOver F E → (Leaf → List E) → Term F → ℕ → E
 polynomial a s (leaf_term l) n = slice_index_or (s l) n a.ring.zero
 polynomial a s (const_term c) n = slice_index_or (a.embed c ∷ []) n a.ring.zero

@@ -1,4 +1,4 @@
--- The operations of a ring alone, without laws: for definitions that also run on expressions.
+-- The operations of a ring without its laws: for definitions that also run on expressions.
 use Rattle.air_field.specs.Ring.{CommRing}
 
 pub record RingOps (A : Type 0) : Type 0 where

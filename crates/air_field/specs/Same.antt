@@ -1,12 +1,12 @@
--- Terms with one polynomial in every algebra, and terms that stand for others.
+-- Terms with one polynomial in every algebra, and terms that simplify others.
 use Rattle.std.specs.Prelude.{ℕ, ◌≤◌, List, ◌∷◌}
 use Rattle.air_field.specs.Ring.{CommRing, AllZero}
 use Rattle.air_field.specs.Term.{Leaf, Term, const_term, ext_const_term, add_term, sub_term, neg_term, mul_term}
 use Rattle.air_field.specs.Degree.{degree_by}
 
--- Two terms that the laws of a commutative algebra over F make equal: they are one element of the free one over
--- the leaves. So they have one polynomial under every assignment, in every such algebra. What else these laws make
--- equal, as t and 0 + t, is in laws/Same.
+-- Two terms that the laws of a commutative algebra over F make equal: they are one element of the free algebra over the
+-- leaves. So they have one polynomial under every assignment, in every such algebra. Further equalities that follow, as
+-- of t and 0 + t, are in laws/Same.
 pub data Same {F : Type 0} (r : CommRing F) : Term F → Term F → Type 0 where
   same_refl : {t : Term F} → Same r t t
   same_sym : {t u : Term F} → Same r t u → Same r u t
@@ -27,7 +27,7 @@ pub data Same {F : Type 0} (r : CommRing F) : Term F → Term F → Type 0 where
   mul_sum : {t u v : Term F} → Same r (mul_term t (add_term u v)) (add_term (mul_term t u) (mul_term t v))
   ext_base : {x : F} {xs : List F} → AllZero r xs → Same r (const_term x) (ext_const_term (x ∷ xs))
 
--- u stands for t: the same polynomial everywhere, and a degree that is no greater by any weighting of the leaves
+-- u simplifies t: the same polynomial everywhere, and no greater degree under any weights of the leaves
 pub record Simplifies {F : Type 0} (r : CommRing F) (u t : Term F) : Type 0 where
   pub same : Same r u t
   pub degree_le : (w : Leaf → ℕ) → degree_by w u ≤ degree_by w t

@@ -1,7 +1,7 @@
 -- Terms: unshared, unfolded expressions over named leaves.
 use Rattle.std.specs.Prelude.{ℕ, List, ⊤}
 
--- A leaf that is no constant.
+-- A leaf that isn't a constant.
 pub data Leaf : Type 0 where
   preprocessed : ℕ → ℕ → Leaf
   main : ℕ → ℕ → Leaf
@@ -33,7 +33,7 @@ with_leaves s (sub_term x y) = sub_term (with_leaves s x) (with_leaves s y)
 with_leaves s (neg_term x) = neg_term (with_leaves s x)
 with_leaves s (mul_term x y) = mul_term (with_leaves s x) (with_leaves s y)
 
--- it has base leaves and base constants alone
+-- the leaf or term has only base leaves and base constants
 abbrev pub IsBaseLeaf : Leaf → Type 0
 IsBaseLeaf (preprocessed o i) = ⊤
 IsBaseLeaf (main o i) = ⊤

@@ -2,7 +2,7 @@
 use Rattle.air_field.specs.Ring.{minus, AlgebraOver}
 use Rattle.air_field.specs.Term.{Leaf, Term, leaf_term, const_term, ext_const_term, add_term, sub_term, neg_term, mul_term}
 
--- the value, the leaves having the values of s
+-- the value of a term, where s gives the leaves' values
 abbrev pub value : {F E : Type 0} → AlgebraOver F E → (Leaf → E) → Term F → E
 value a s (leaf_term l) = s l
 value a s (const_term c) = a.embed c

@@ -1,15 +1,15 @@
-//! What rings and matrices refuse.
+//! The errors of rings and matrices.
 ghost use Rattle.std.specs.Prelude.{◌≡◌};
 ghost use Rattle.air_field.specs.declared.errors.RingError.TheVariants.{Memory};
 
 use std::alloc::{AllocError, AllocFailed};
 
-/// Why an operation of a ring was refused.
+/// Why an operation of a ring failed.
 #[derive(Clone, Copy, Debug, PartialEq, Eq)]
 pub enum RingError {
-    /// A growth was refused.
+    /// Out of memory.
     Memory,
-    /// A degree passes `usize`.
+    /// A degree exceeds `usize`.
     DegreeOverflow,
 }
 
@@ -31,9 +31,9 @@ impl<T: Drop> From<AllocFailed<T>> for RingError {
     }
 }
 
-/// Why values are no matrix.
+/// Why values don't make a matrix.
 #[derive(Clone, Copy, Debug, PartialEq, Eq)]
 pub enum MatrixError {
-    /// So many values fill no whole rows of this width.
+    /// `len` values don't fill whole rows of this width.
     Ragged { len: usize, width: usize },
 }

@@ -1,5 +1,5 @@
-//! Fields, matrices, and rings that make expressions, with the definitions that all crates share: terms, their
-//! values, polynomials and degrees, and what stands at the leaves at a row of a trace.
+//! Fields, matrices, and rings that make expressions, with the definitions that all crates share: terms, their values,
+//! polynomials and degrees, and the values of the leaves at a row of a trace.
 #![tactic(auto)]
 
 pub mod errors;

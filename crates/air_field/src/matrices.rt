@@ -1,4 +1,4 @@
-//! Matrices, row after row, and views of them.
+//! Matrices, stored row by row, and views of them.
 
 pub mod matrix;
 pub mod view;

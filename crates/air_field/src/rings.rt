@@ -1,4 +1,4 @@
-//! Rings that make their elements, and the rings of a field's and an extension's own values.
+//! Rings whose elements are made by calls, and the rings of the values of a field or an extension.
 
 pub mod algebra;
 pub mod ext_algebra;

@@ -12,7 +12,7 @@ module _ {F : Type 0} {p : ℕ} (m : Modular F p) where
   number_items_is [] = refl
   number_items_is (c ∷ cs) = ap (item (number_data (m.value c))) (number_items_is cs)
 
-  -- the list of all elements, once a loop has come to its end
+  -- the list of all elements, at the end of the loop
   pub all_elements : (ds : List Data) (cs : List F) (i : ℕ) → length cs ≤ i → ds ≡ map (λ c. number_data (m.value c)) (take i cs) → array (items_of ds) ≡ array (number_items m cs)
   all_elements ds cs i le is =
       let whole : take i cs ≡ cs = grind (arith, common_steps) in

@@ -5,7 +5,7 @@ use Rattle.air_symbolic.specs.Leaves.{Leaves, LeafLaws}
 use Rattle.air_symbolic.specs.Pools.{Pool, on_base, Grown}
 use Rattle.air_symbolic.specs.laws.Pools.{Grown-under}
 
--- what lies under the pool was lent, and has grown
+-- the pool's base was borrowed, and has grown
 pub lent_grown : {U A F : Type 0} (r : CommRing F) (reads : U → Leaves A F) (grows : U → U → Type 0) (empty : U) → LeafLaws r reads grows empty → (p : Pool U A) (lent w : U) → lent ≡ p.base → grows lent w → Grown grows reads p (on_base p w)
 lent_grown r reads grows empty laws p lent w e g = Grown-under r reads grows empty laws p w (subst (λ l. grows l w) e g)
 

@@ -1,4 +1,4 @@
--- The steps that are left while a list is written, and their trees.
+-- The remaining steps of writing a list, and their trees.
 use Rattle.std.proofs.Common.{◌≡◌, ℕ, ◌+◌, ◌<◌, Bool, true, false, List, [], ◌∷◌, ◌++◌, append_assoc, length, length-append, refl, sym, ap, subst, ◌∙◌, arith}
 use Rattle.std.proofs.lemmas.List.{append-nil}
 use Rattle.air_symbolic.specs.Trees.{Tree, leaf_tree, add_tree, sub_tree, neg_tree, mul_tree}
@@ -9,7 +9,7 @@ use Rattle.air_json.specs.Written.{subtrees}
 use Rattle.air_json.specs.laws.Written.{parts, parts_root}
 use Rattle.air_json.specs.Writing.{steps_of}
 
--- the tree of a node, the trees of its operands being those of f
+-- the tree of a node, whose operands have the trees that f gives
 abbrev pub node_tree : {A S : Type 0} → (A → S) → (ℕ → Tree S) → SymbolicExpr A → Tree S
 node_tree seen f (Leaf a) = leaf_tree (seen a)
 node_tree seen f (Add x y d) = add_tree (f x) (f y)
@@ -17,7 +17,7 @@ node_tree seen f (Sub x y d) = sub_tree (f x) (f y)
 node_tree seen f (Neg x d) = neg_tree (f x)
 node_tree seen f (Mul x y d) = mul_tree (f x) (f y)
 
--- the trees that a step is to bring into the list, and those of all steps, the last step first
+-- the trees that a step brings into the list, and those of all steps, the last step first
 abbrev pub take_within_cap : {S : Type 0} → (ℕ → Tree S) → ℕ × Bool → List (Tree S)
 take_within_cap f (n, false) = subtrees (f n)
 take_within_cap f (n, true) = f n ∷ []
@@ -26,7 +26,7 @@ pub left : {S : Type 0} → (ℕ → Tree S) → List (ℕ × Bool) → List (Tr
 left f [] = []
 left f (s ∷ steps) = left f steps ++ take_within_cap f s
 
--- how many steps come at most
+-- the greatest number of steps
 abbrev pub work_of : {S : Type 0} → (ℕ → Tree S) → ℕ × Bool → ℕ
 work_of f (n, false) = length (subtrees (f n)) + length (subtrees (f n))
 work_of f (n, true) = 1
@@ -81,7 +81,7 @@ module _ {S : Type 0} (f : ℕ → Tree S) where
   work_append [] ys = omega arith
   work_append (s ∷ xs) ys = omega (arith, work_append xs ys)
 
-  -- ---- a step that looks at an expression
+  -- ---- a step that visits an expression
 
   module _ {A : Type 0} (seen : A → S) where
     steps_left : (n : ℕ) (node : SymbolicExpr A) → f n ≡ node_tree seen f node → left f (steps_of n node) ≡ subtrees (f n)
@@ -138,7 +138,7 @@ module _ {S : Type 0} (f : ℕ → Tree S) where
     pub look_within : (size : ℕ) (xs : List (ℕ × Bool)) (n : ℕ) (node : SymbolicExpr A) → Within size (xs ++ (n, false) ∷ []) → OperandsBelow n node → Within size (xs ++ steps_of n node)
     look_within size xs n node h k = within_append size xs (steps_of n node) (within_front size xs ((n, false) ∷ []) h) (steps_within size n node (within_last size xs (n, false) h) k)
 
-  -- ---- a step that is taken off
+  -- ---- a step that is removed
 
   some_work : (s : ℕ × Bool) → 0 < work_of f s
   some_work (n, true) = omega arith

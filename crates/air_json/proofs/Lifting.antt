@@ -1,4 +1,4 @@
--- The base expression of a list inside a leaf.
+-- The base expression of the list nested in a leaf.
 use Rattle.std.proofs.Common.{◌≡◌, ℕ, List, length, Option, option_map, Result, Ok, sym, ap, subst, ◌∙◌}
 use Rattle.air_field.specs.Modular.{Modular}
 use Rattle.serde_json.specs.Data.{Data}
@@ -19,7 +19,7 @@ use Rattle.air_json.specs.ExtLeaves.{at_place, faults_at, ext_constant_at}
 use Rattle.air_json.specs.declared.errors.FlatError.{FlatError}
 use Rattle.air_json.specs.declared.errors.FlatError.TheVariants as faults
 
--- a list that is written for what is seen of a tree is the tree's own
+-- the list written for the views of a tree's leaves is the tree's own
 pub written_tree : {F : Type 0} {p : ℕ} (m : Modular F p) (d : Data) (o : Option (Tree (BaseLeaf F))) → IsWritten (base_kind m) d (option_map (map_leaves (base_seen tt)) o) → IsWritten (base_kind m) d o
 written_tree m d o h = subst (IsWritten (base_kind m) d) (over_same o) h
 

@@ -1,4 +1,4 @@
--- What a reader of a list has read, beside what reading the list gives.
+-- The state of a list reader, beside the result of reading the list.
 use Rattle.std.proofs.Common.{◌≡◌, ℕ, ◌-◌, List, [], ◌∷◌, ◌++◌, length, map, Option, Some, None, option_map, Result, Ok, Err, IfOk, IfErr, refl, sym, ap, ap₂, subst, ◌∙◌}
 use Rattle.std.proofs.lemmas.List.{length-map, map_push}
 use Rattle.std.proofs.lemmas.Option.{slice_get-map}
@@ -21,7 +21,7 @@ use Rattle.air_json.proofs.Growing.{AllBelow}
 use Rattle.air_json.proofs.NumberTrees.{there_are}
 use Rattle.air_json.proofs.Loop.{carry}
 
--- a fault of what is there is one of what is read
+-- a fault of a result mapped by h is a fault of the result
 pub fails_before : {X Y : Type 0} (f : FlatError) (r : Result X FlatError) (h : X → Y) → Fails f (r >>= λ x. ok_of (h x)) → Fails f r
 fails_before f r h e = fails_if f r (λ n. before_done r h f (fails_is f (r >>= λ x. ok_of (h x)) e n))
 
@@ -35,7 +35,7 @@ nodes_push {S} kind ok_of (e ∷ ds) d = later (node_of_value kind ok_of e) (λ 
     later (Ok t) h = h t
     later (Err f) h = refl
 
--- one node more is one tree more
+-- one more node is one more tree
 pub more_given : {S F : Type 0} (kind : Kind S F) (before : List (Tree S)) (d : Data) (olds : List (Option (Tree S))) (o : Option (Tree S)) → as_some (node_of_value kind before d) ≡ Ok o → olds ≡ map Some before
     → all_some (node_more kind (Ok before) d) ≡ Ok (olds ++ o ∷ [])
 more_given kind before d olds o good are =
@@ -118,7 +118,7 @@ module _ {U A S F : Type 0} (kind : Kind S F) (laws : KindLaws kind) (tree : Poo
     pub root_fails : (r : Result (List ℕ) FlatError) → HasRead kind tree p ds r → IfErr (last_number r) (λ f. (f ≡ faults.Memory → ⊥) → HasFault kind whole f)
     root_fails r h = gives_err (HasFault kind whole) (tree p) (last_number r) (root_of kind whole) (root_gives r h) (root_fault kind laws whole)
 
-  -- ---- one node more
+  -- ---- one more node
 
   module _ (p q : Pool U A) (ds : List Data) (d : Data) where
     pub still_read : (f : FlatError) → HasRead kind tree p ds (Err f) → HasRead kind tree q (ds ++ d ∷ []) (Err f)

@@ -1,4 +1,4 @@
--- Steps of a loop that reads items one after the other.
+-- Steps of a loop that reads items one after another.
 use Rattle.std.proofs.Common.{◌≡◌, ℕ, ◌+◌, ◌<◌, List, length, get_or, drop, drop-cons, add-one, Result, refl, sym, ap, ◌∙◌}
 use Rattle.serde_json.specs.Data.{item}
 use Rattle.serde_json.specs.View.{view, items_view}

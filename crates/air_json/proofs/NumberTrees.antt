@@ -1,4 +1,4 @@
--- What reading gives by the numbers of a pool, and by their trees.
+-- The results of reading by numbers of a pool, and by their trees.
 use Rattle.std.proofs.Common.{◌≡◌, ℕ, suc, zero, ◌<◌, ◌==◌, Bool, true, false, bytes_eq, if◌then◌else◌, codes, List, [], ◌∷◌, length, map, Option, Some, None, option_map, Result, Ok, Err, refl, sym, ap, ap₂, subst, ◌∙◌, arith}
 use Rattle.std.specs.Prelude.{filter_map}
 use Rattle.std.specs.Option.{ok_or}
@@ -43,7 +43,7 @@ module _ {X : Type 0} (tree : ℕ → Option X) where
   pub same_length : (ids : List ℕ) (xs : List X) → map tree ids ≡ map Some xs → length ids ≡ length xs
   same_length ids xs e = sym (length-map ids tree) ∙ ap length e ∙ length-map xs (λ x. Some x)
 
--- ---- one of two calls, seen as the other
+-- ---- one of two calls described by the other
 
 alike : {X Y Z : Type 0} (f : X → Z) (g : Y → Z) (P : Result X FlatError → Result Y FlatError → Type 0) → ((e : FlatError) → P (Err e) (Err e)) → ((x : X) (y : Y) → f x ≡ g y → P (Ok x) (Ok y))
     → (r : Result X FlatError) (s : Result Y FlatError) → (r >>= λ x. ok_of (f x)) ≡ (s >>= λ y. ok_of (g y)) → P r s
@@ -110,7 +110,7 @@ module _ {S F : Type 0} (kind : Kind S F) (tree : ℕ → Option (Tree S)) (ids 
   by_places n None = refl
   by_places n (Some p) = by_operands n p.0 p.1 p.2
 
-  -- an operation is read by numbers as it is by their trees
+  -- reading an operation by numbers agrees with reading it by their trees
   operation_read : (c : Data) → joined (operands_at weight ids op c) ≡ as_some (operation_at kind ts op c)
   unfolding operands_at
   operation_read c = rw (same_length tree ids ts are) (by_places (length ts) (operands_of op c))
@@ -118,7 +118,7 @@ module _ {S F : Type 0} (kind : Kind S F) (tree : ℕ → Option (Tree S)) (ids 
   pub operation_seen : (c : Data) (r : Result (ℕ × ℕ) FlatError) → r ≡ operands_at weight ids op c → joined r ≡ as_some (operation_at kind ts op c)
   operation_seen c r e = ap (λ q. joined q) e ∙ operation_read c
 
--- ---- values that are no nodes
+-- ---- values that aren't nodes
 
 module _ {S F : Type 0} (kind : Kind S F) (ts : List (Tree S)) (d : Data) where
   pub node_unnamed : only_member d ≡ None → node_of_value kind ts d ≡ Err (faults.Shape (length ts))
@@ -135,7 +135,7 @@ module _ {S F : Type 0} (kind : Kind S F) (ts : List (Tree S)) (d : Data) where
 -- ---- pools
 
 module _ {U A S F : Type 0} {reads : U → Leaves A F} {p : Pool U A} {ids : List ℕ} (seen : U → A → S) where
-  -- the numbers are of the pool, and so have trees
+  -- the numbers are in the pool, and so have trees
   pub trees_are : AreOf reads p ids → map (seen_at seen p) ids ≡ map Some (filter_map (seen_at seen p) ids)
   trees_are h = all_there (seen_at seen p) (length p.nodes) (seen_there reads seen p h.pool) ids h.ids_in
 

@@ -1,4 +1,4 @@
--- An object of one member, as its map's entries show it.
+-- An object of one member, by the entries of its map.
 use Rattle.std.proofs.Common.{◌≡◌, ℕ, List, [], ◌∷◌, length, Option, Some, None, String, Global, string_bytes, refl, ap, arith}
 use Rattle.std.specs.List.{slice_get}
 use Rattle.serde_json.specs.Data.{Data}

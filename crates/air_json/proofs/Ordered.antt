@@ -1,4 +1,4 @@
--- The order in which the nodes of a list stand.
+-- The order of the nodes of a list.
 use Rattle.std.proofs.Common.{◌≡◌, ℕ, suc, zero, List, [], ◌∷◌, ◌++◌, append_assoc, Some, refl, sym, subst, ◌∙◌, inl, ⊎_elim}
 use Rattle.std.specs.List.{slice_get}
 use Rattle.std.proofs.lemmas.List.{append-nil}
@@ -6,7 +6,7 @@ use Rattle.air_symbolic.specs.Trees.{Tree, leaf_tree, add_tree, sub_tree, neg_tr
 use Rattle.air_json.specs.Written.{subtrees, IsAmong, Adds}
 use Rattle.air_json.specs.laws.Written.{among_more, among_push, among_either, pushed_either, parts, parts_root}
 
--- ---- operands stand earlier
+-- ---- operands are earlier
 
 unfoldable pub HasOperands : {S : Type 0} → List (Tree S) → Tree S → Type 0
 HasOperands done (leaf_tree a) = Unit {0}
@@ -15,12 +15,12 @@ HasOperands done (sub_tree t u) = IsAmong done t × IsAmong done u
 HasOperands done (neg_tree t) = IsAmong done t
 HasOperands done (mul_tree t u) = IsAmong done t × IsAmong done u
 
--- each of the trees stands behind its operands, those of done included
+-- each of the trees is after its operands, including those of `done`
 pub Ordered : {S : Type 0} → List (Tree S) → List (Tree S) → Type 0
 Ordered done [] = Unit {0}
 Ordered done (t ∷ ts) = HasOperands done t × Ordered (done ++ t ∷ []) ts
 
--- with a tree all its subtrees are there
+-- all subtrees of a tree of the list are in the list
 unfoldable pub Closed : {S : Type 0} → List (Tree S) → Type 0
 Closed {S} done = (t : Tree S) → IsAmong done t → (x : Tree S) → IsAmong (subtrees t) x → IsAmong done x
 
@@ -56,7 +56,7 @@ module _ {S : Type 0} where
   unfolding Ordered
   ordered_head done ts t h = h
 
-  -- the root, once its operands are there
+  -- the root, when its operands are in the list
   ordered_root : (done rest : List (Tree S)) (t : Tree S) → HasOperands done t → ((mid : List (Tree S)) → Sub done mid → IsAmong mid t → Ordered mid rest) → Ordered done (t ∷ rest)
   ordered_root done rest t h k = ordered_cons done rest t h (k (done ++ t ∷ []) (λ x p. among_more done (t ∷ []) x p) (among_push done t))
 
@@ -84,7 +84,7 @@ module _ {S : Type 0} where
   pub ordered_all : (t : Tree S) → Ordered [] (subtrees t)
   ordered_all t = subst (Ordered []) (append-nil (subtrees t)) (ordered_tree t [] [] (λ mid sub at. ordered_end mid))
 
-  -- ---- what is there already is passed by
+  -- ---- elements that are in the list already are skipped
 
   pub adds_skip : (done xs rest all : List (Tree S)) → ((x : Tree S) → IsAmong xs x → IsAmong done x) → Adds done rest all → Adds done (xs ++ rest) all
   unfolding Adds
@@ -97,7 +97,7 @@ module _ {S : Type 0} where
       ordered_skip done xs rest (λ y p. h y (suc p.0, p.1))
       (ordered_sub (done ++ x ∷ []) done (xs ++ rest) (λ t p. ⊎_elim (λ (l : IsAmong done t). l) (λ (e : x ≡ t). subst (λ (y : Tree S). IsAmong done y) e (h x (zero, refl))) (pushed_either done x t p)) (ordered_head done (xs ++ rest) x k).1)
 
-  -- ---- with a tree all its subtrees are there
+  -- ---- all subtrees of a tree of the list are in the list
 
   nowhere : (x : Tree S) (i : ℕ) → slice_get [] i ≡ Some x → ⊥
   nowhere x i e = cc

@@ -1,4 +1,4 @@
--- The nodes of a pool, as they are written.
+-- The nodes of a pool as they are written.
 use Rattle.std.proofs.Common.{◌≡◌, ℕ, suc, zero, ◌<◌, ◌≤◌, Bool, true, false, List, [], ◌∷◌, ◌++◌, length, Option, Some, None, option_map, unwrap_or, codes, refl, sym, ap, ap₂, subst, ◌∙◌, arith}
 use Rattle.std.specs.Prelude.{⊤}
 use Rattle.std.specs.List.{slice_get}
@@ -29,7 +29,7 @@ module _ {A S F : Type 0} (kind : Kind S F) (seen : A → S) (f : ℕ → Tree S
   stands_at : (x : ℕ) (p : Placed places x) → slice_get done p.0 ≡ Some (f x)
   stands_at x p = t.placed x p.0 p.1
 
-  -- the operand that stands in the list has a place
+  -- an operand in the list has a place
   placed_at : (x : ℕ) → x < size → IsAmong done (f x) → Placed places x
   placed_at x h s = by_entry (entry places x (omega (arith, t.len, h)))
     where
@@ -62,7 +62,7 @@ module _ {A S F : Type 0} (kind : Kind S F) (seen : A → S) (f : ℕ → Tree S
 
 -- ---- pools
 
--- the tree of number i, and z where there is none
+-- the tree of number i, and z if there is none
 abbrev pub tree_or : {U A S : Type 0} → (U → A → S) → Tree S → Pool U A → ℕ → Tree S
 tree_or seen z p i = unwrap_or (seen_at seen p i) z
 
@@ -163,7 +163,7 @@ module _ {U A S F : Type 0} (reads : U → Leaves A F) (grows : U → U → Type
           (looks kind trees size (seen p.base) root rest places ds s.0 node (node_seen reads seen z p w s.0 node is) is.below
           (look_at rest s.0 s.1 b (subst At e h)))
 
-      -- at a step that writes a node, its operands are written
+      -- at a step that writes a node, its operands have been written
       pub next_ready : (steps rest : List (ℕ × Bool)) (s : ℕ × Bool) (node : SymbolicExpr A) → steps ≡ rest ++ s ∷ [] → s.1 ≡ true → IsNode (reads p.base) p.nodes s.0 node → At steps → IsWritable (reads p.base).valid places node
       next_ready steps rest s node e b is g =
           let h : At (rest ++ (s.0, true) ∷ []) = write_at rest s.0 s.1 b (subst At e g) in
@@ -178,7 +178,7 @@ module _ {U A S F : Type 0} (reads : U → Leaves A F) (grows : U → U → Type
           subst (IsWrittenNode kind h.done d) (sym (node_seen reads seen z p w n node is))
           (value_of kind (seen p.base) trees size h.done places h.table (reads p.base) node d stated v)
 
-      -- of the first numbers too
+      -- so the trees of the first numbers differ, too
       first_ones : size ≤ length p.nodes → IsOneToOne trees (length p.nodes) → IsOneToOne trees size
       first_ones le h n m x y e = h n m (omega (arith, le, x)) (omega (arith, le, y)) e
 

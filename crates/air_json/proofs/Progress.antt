@@ -1,4 +1,4 @@
--- What holds while a list is written.
+-- Invariants of writing a list.
 use Rattle.std.proofs.Common.{◌≡◌, ◌≢◌, ℕ, suc, zero, ◌<◌, Bool, true, false, eqb, List, [], ◌∷◌, ◌++◌, append_assoc, length, Option, Some, None, replicate, refl, sym, ap, subst, ◌∙◌, arith, inr, ⊎_elim}
 use Rattle.std.specs.List.{slice_get}
 use Rattle.std.proofs.Math.ListN.{set, length-set, length-replicate}
@@ -18,7 +18,7 @@ use Rattle.air_json.proofs.Ordered.{HasOperands, Ordered, Closed, ordered_head, 
 
 -- ---- the table of places
 
--- The table has the place of the tree of each number that stands in the list, and of no other.
+-- The table has the place of the tree of each number that is in the list, and no other place.
 pub record IsTable {S : Type 0} (f : ℕ → Tree S) (size : ℕ) (done : List (Tree S)) (places : List (Option ℕ)) : Type 0 where
   pub len : length places ≡ size
   pub placed : (n i : ℕ) → slice_get places n ≡ Some (Some i) → slice_get done i ≡ Some (f n)
@@ -121,8 +121,8 @@ module _ {S F : Type 0} (kind : Kind S F) where
   unfolding AreWritten
   written_none = tt
 
--- The values so far are the nodes of done. Whatever all is that done becomes with what is left, it is what the subtrees
--- of the root become.
+-- The values so far are the nodes of `done`. A list that arises by adding the remaining steps' trees to `done` arises
+-- by adding the root's subtrees to the empty list.
 pub record Progress {S F : Type 0} (kind : Kind S F) (f : ℕ → Tree S) (size : ℕ) (root : Tree S) (steps : List (ℕ × Bool)) (places : List (Option ℕ)) (ds : List Data) : Type 0 where
   pub done : List (Tree S)
   pub within : Within size steps
@@ -153,7 +153,7 @@ module _ {S F : Type 0} (kind : Kind S F) (f : ℕ → Tree S) (size : ℕ) wher
     nodes = h.nodes;
   }
 
-  -- a step whose expression is written
+  -- a step whose expression has been written
   pub skips : (root : Tree S) (steps : List (ℕ × Bool)) (places : List (Option ℕ)) (ds : List Data) (n i : ℕ) (b : Bool) → Progress kind f size root (steps ++ (n, b) ∷ []) places ds → slice_get places n ≡ Some (Some i) → Progress kind f size root steps places ds
   unfolding Closed
   skips root steps places ds n i b h at = record {
@@ -176,7 +176,7 @@ module _ {S F : Type 0} (kind : Kind S F) (f : ℕ → Tree S) (size : ℕ) wher
       there false x s = parts_there x s
       there true x s = ⊎_elim (λ (e : f n ≡ x). subst (λ (t : Tree S). IsAmong h.done t) e root_there) (λ (r : IsAmong [] x). absurd (no_tree f size x r)) (among_cons (f n) [] x s)
 
-  -- a step that looks at an expression
+  -- a step that visits an expression
   pub looks : {A : Type 0} (seen : A → S) (root : Tree S) (steps : List (ℕ × Bool)) (places : List (Option ℕ)) (ds : List Data) (n : ℕ) (node : SymbolicExpr A) → f n ≡ node_tree seen f node → OperandsBelow n node → Progress kind f size root (steps ++ (n, false) ∷ []) places ds
       → Progress kind f size root (steps ++ steps_of n node) places ds
   looks seen root steps places ds n node e below h =
@@ -191,7 +191,7 @@ module _ {S F : Type 0} (kind : Kind S F) (f : ℕ → Tree S) (size : ℕ) wher
         order = λ all a. h.order all (subst (λ (l : List (Tree S)). Adds h.done l all) same a);
       }
 
-  -- a step that writes an expression, whose operands are written
+  -- a step that writes an expression whose operands have been written
   pub is_next : (root : Tree S) (steps : List (ℕ × Bool)) (places : List (Option ℕ)) (ds : List Data) (n : ℕ) (h : Progress kind f size root (steps ++ (n, true) ∷ []) places ds) → HasOperands h.done (f n) × Ordered (h.done ++ f n ∷ []) (left f steps)
   is_next root steps places ds n h = ordered_head h.done (left f steps) (f n) (subst (Ordered h.done) (left_push f steps (n, true)) h.ordered)
 

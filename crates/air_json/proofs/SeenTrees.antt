@@ -1,4 +1,4 @@
--- What is seen of an expression, and that it stays.
+-- An expression's tree without numbers of a pool, and that it stays.
 use Rattle.std.proofs.Common.{◌≡◌, ℕ, ◌<◌, length, Option, Some, None, option_map, Result, Ok, refl, sym, ap, ◌∙◌}
 use Rattle.air_field.specs.Term.{Term}
 use Rattle.air_field.specs.Degree.{degree_by, cached_weight}
@@ -14,7 +14,7 @@ use Rattle.air_json.specs.Nodes.{joined_tree}
 use Rattle.air_json.specs.Results.{◌>>=◌, as_some}
 use Rattle.air_json.specs.Unshared.{map_leaves, seen_at, degree_of, WireLaws}
 
--- ---- the tree over other leaves
+-- ---- the tree with its leaves replaced
 
 module _ {A S : Type 0} (f : A → S) where
   pub map_leaves-both : (node : Tree A → Tree A → Tree A) (made : Tree S → Tree S → Tree S)
@@ -28,7 +28,7 @@ module _ {A S : Type 0} (f : A → S) where
   map_leaves-negative (Some t) = refl
   map_leaves-negative None = refl
 
--- a negative's operand stands for both
+-- the only operand of a negative is used for both
 pub negative-both : {S : Type 0} (op : Operation) (o r : Option (Tree S)) (u : Tree S) → op ≡ Neg → r ≡ Some u → both (joined_tree op) o r ≡ option_map neg_tree o
 negative-both op (Some t) r u is there = rw (is, there) refl
 negative-both op None r u is there = refl
@@ -75,6 +75,6 @@ module _ {U A S F : Type 0} (reads : U → Leaves A F) (grows : U → U → Type
       ap (option_map (map_leaves (seen q.base))) (ap (λ l. tree_of l i) g.nodes.1 ∙ tree_of-kept p.nodes g.nodes.0 i h)
       ∙ tree_kept p.base q.base g.base (tree_at p i) (tree_of-valid (reads p.base) p.nodes w.nodes i h)
 
--- a leaf that is read, and then put into the pool
+-- a leaf that is read and then inserted into the pool
 pub leaf_seen : {U A S : Type 0} (seen : U → A → S) (u v : U) (a : A) (o : Option (Tree A)) (read : Result S FlatError) → v ≡ u → o ≡ Some (leaf_tree a) → read ≡ Ok (seen u a) → as_some (read >>= λ s. Ok (leaf_tree s)) ≡ Ok (option_map (map_leaves (seen v)) o)
 leaf_seen seen u v a o read same tree is = rw (is, tree, same) refl

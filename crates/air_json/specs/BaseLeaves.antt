@@ -1,4 +1,4 @@
--- Base leaves: how they are spelt, and how they are read in a node.
+-- Spelling and reading base leaves in a node.
 use Rattle.std.specs.Prelude.{◌≡◌, ℕ, ◌≤◌, List, [], ◌∷◌, Option, Some, None, Result, Ok, Err, option_map, codes, if◌then◌else◌, nat_lt, bytes_eq, ok_or, refl, ⊤}
 use Rattle.serde_json.specs.Data.{Data, string}
 use Rattle.serde_json.specs.Find.{as_str}
@@ -23,20 +23,20 @@ SpellsLeaf m d leaves.IsLastRow = d ≡ string (codes "IsLastRow")
 SpellsLeaf m d leaves.IsTransition = d ≡ string (codes "IsTransition")
 SpellsLeaf m d (leaves.Constant x) = IsCase (codes "Constant") (IsWholeNumber (m.value x)) d
 
--- ---- which fault has a value that spells none
+-- ---- the fault of a value that spells no leaf
 
--- a whole number at or past the modulus p
+-- a whole number not below the modulus p
 abbrev pub IsPast : ℕ → Data → Type 0
 IsPast p c = (n : ℕ) × IsWholeNumber n c × (p ≤ n)
 
--- a constant has a fault of its own where its number is whole, but not canonical
+-- a constant has a fault of its own if its number is whole, but not canonical
 abbrev pub OwnLeafFault : ℕ → ℕ → Data → FlatError → Type 0
 OwnLeafFault p place d f = IsCase (codes "Constant") (IsPast p) d × (f ≡ faults.NotCanonical place)
 
 abbrev pub LeafFault : {F : Type 0} {p : ℕ} → Modular F p → ℕ → Data → FlatError → Type 0
 LeafFault {p = p} m = OwnFaultOr (SpellsLeaf m) (OwnLeafFault p)
 
--- ---- what is written
+-- ---- writing
 
 abbrev pub leaf_data : {F : Type 0} {p : ℕ} → Modular F p → BaseLeaf F → Data
 leaf_data m (leaves.Variable v) = case_data (codes "Variable") (variable_plain.written v)
@@ -48,9 +48,9 @@ leaf_data m (leaves.Constant x) = case_data (codes "Constant") (number_data (m.v
 abbrev pub WritesLeaf : {F : Type 0} {p : ℕ} → Modular F p → Data → BaseLeaf F → Type 0
 WritesLeaf m d a = d ≡ leaf_data m a
 
--- ---- how a reader finds it
+-- ---- reading
 
--- a field element, by its canonical number
+-- the field element of a canonical number
 abbrev pub element_or : {F : Type 0} {p : ℕ} → Modular F p → ℕ → Option ℕ → Result F FlatError
 element_or m place None = Err (faults.Shape place)
 element_or {p = p} m place (Some n) = if nat_lt n p then Ok (m.class n) else Err (faults.NotCanonical place)
@@ -58,28 +58,28 @@ element_or {p = p} m place (Some n) = if nat_lt n p then Ok (m.class n) else Err
 unfoldable pub element_at : {F : Type 0} {p : ℕ} → Modular F p → ℕ → Data → Result F FlatError
 element_at m place d = element_or m place (as_whole_number d)
 
--- a leaf without contents, by its name
+-- leaves without contents, by name
 abbrev pub bare_leaves : {F : Type 0} → List (List ℕ × BaseLeaf F)
 bare_leaves = (codes "IsFirstRow", leaves.IsFirstRow) ∷ (codes "IsLastRow", leaves.IsLastRow) ∷ (codes "IsTransition", leaves.IsTransition) ∷ []
 
 abbrev pub bare_leaf : {F : Type 0} → ℕ → List ℕ → Result (BaseLeaf F) FlatError
 bare_leaf place name = ok_or (find_name bare_leaves name) (faults.Shape place)
 
--- a leaf with contents, by its name
+-- a leaf with contents, by name
 abbrev pub leaf_with : {F : Type 0} {p : ℕ} → Modular F p → ℕ → List ℕ → Data → Result (BaseLeaf F) FlatError
 leaf_with m place name d =
     if bytes_eq name (codes "Variable") then ok_or (option_map (λ v. leaves.Variable v) (variable_plain.read d)) (faults.Shape place)
     else (if bytes_eq name (codes "Constant") then (element_at m place d >>= λ c. Ok (leaves.Constant c))
     else Err (faults.Shape place))
 
--- the leaf that is spelt by a value in the node at a place, or its fault
+-- the leaf that a value spells in the node at a place, or the value's fault
 unfoldable pub leaf_at : {F : Type 0} {p : ℕ} → Modular F p → ℕ → Data → Result (BaseLeaf F) FlatError
 leaf_at m place d = text_or (Err (faults.Shape place)) (bare_leaf place) (leaf_with m place) (as_str d) d
 
 abbrev pub base_kind : {F : Type 0} {p : ℕ} → Modular F p → Kind (BaseLeaf F) F
 base_kind m = record { spells = SpellsLeaf m; writes = WritesLeaf m; fault = LeafFault m; leaf_at = leaf_at m; term = base_term }
 
--- a base leaf holds no number
+-- a base leaf has no numbers of a pool
 abbrev pub base_seen : {F : Type 0} → ⊤ → BaseLeaf F → BaseLeaf F
 base_seen u a = a
 

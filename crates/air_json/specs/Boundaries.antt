@@ -1,4 +1,4 @@
--- Boundary cells: how they are spelt, and how they are read.
+-- Spelling and reading boundary values.
 use Rattle.std.specs.Prelude.{◌≡◌, ℕ, List, [], ◌∷◌, Option, option_and_then, codes}
 use Rattle.serde_json.specs.Data.{Data, string, object, member, no_members}
 use Rattle.serde_json.specs.Find.{as_str, get}
@@ -9,7 +9,7 @@ use Rattle.air_core.specs.declared.boundary.BoundaryEnd.{BoundaryEnd}
 use Rattle.air_core.specs.declared.boundary.BoundaryEnd.TheVariants as ends
 use Rattle.air_core.specs.declared.boundary.BoundaryPublic.{BoundaryPublic}
 
--- ---- what is written
+-- ---- writing
 
 abbrev pub end_data : BoundaryEnd → Data
 end_data ends.First = string (codes "First")
@@ -18,7 +18,7 @@ end_data ends.Last = string (codes "Last")
 abbrev pub cell_data : BoundaryPublic → Data
 cell_data p = object (member (codes "column") (number_data p.column) (member (codes "end") (end_data p.end) (member (codes "public_value") (number_data p.public_value) no_members)))
 
--- ---- what spells an end or a cell: further keys of a struct's object are ignored
+-- ---- spelling an end or a cell: further keys of a struct's object are ignored
 
 abbrev pub SpellsEnd : Data → BoundaryEnd → Type 0
 SpellsEnd d e = d ≡ end_data e
@@ -29,7 +29,7 @@ SpellsCell d p =
     × HasField (codes "end") (λ e. SpellsEnd e p.end) d
     × HasWhole (codes "public_value") p.public_value d
 
--- ---- how a reader finds them
+-- ---- reading
 
 abbrev pub bare_ends : List (List ℕ × BoundaryEnd)
 bare_ends = (codes "First", ends.First) ∷ (codes "Last", ends.Last) ∷ []

@@ -1,4 +1,4 @@
--- Base entries and variables: how they are spelt, and how they are read.
+-- Spelling and reading base entries and variables.
 use Rattle.std.specs.Prelude.{ℕ, [], ◌∷◌, codes}
 use Rattle.serde_json.specs.Data.{Data}
 use Rattle.air_json.specs.Plain.{Plain}
@@ -7,21 +7,21 @@ use Rattle.air_core.specs.declared.variables.entry.BaseEntry.{BaseEntry}
 use Rattle.air_core.specs.declared.variables.entry.BaseEntry.TheVariants as entries
 use Rattle.air_core.specs.declared.variables.variable.SymbolicVariable.{SymbolicVariable}
 
--- how each is spelt
+-- the form of each entry
 abbrev pub entry_form : BaseEntry → EntryForm
 entry_form (entries.Preprocessed o) = at_offset (codes "Preprocessed") o
 entry_form (entries.Main o) = at_offset (codes "Main") o
 entry_form entries.Periodic = bare (codes "Periodic")
 entry_form entries.Public = bare (codes "Public")
 
--- by which names a reader finds each
+-- the names by which each entry is read
 unfoldable pub entry_names : EntryNames BaseEntry
 entry_names = record {
   offsets = (codes "Preprocessed", λ o. entries.Preprocessed o) ∷ (codes "Main", λ o. entries.Main o) ∷ [];
   bares = (codes "Periodic", entries.Periodic) ∷ (codes "Public", entries.Public) ∷ [];
 }
 
--- what is written, what spells an entry, and what a reader finds
+-- writing, spelling and reading an entry
 abbrev pub entry_plain : Plain BaseEntry
 entry_plain = named_plain entry_form entry_names
 

@@ -1,4 +1,4 @@
--- Extension entries and variables: how they are spelt, and how they are read.
+-- Spelling and reading extension entries and variables.
 use Rattle.std.specs.Prelude.{ℕ, [], ◌∷◌, codes}
 use Rattle.serde_json.specs.Data.{Data}
 use Rattle.air_json.specs.Plain.{Plain}
@@ -7,20 +7,20 @@ use Rattle.air_core.specs.declared.variables.ext_entry.ExtEntry.{ExtEntry}
 use Rattle.air_core.specs.declared.variables.ext_entry.ExtEntry.TheVariants as entries
 use Rattle.air_core.specs.declared.variables.variable_ext.SymbolicVariableExt.{SymbolicVariableExt}
 
--- how each is spelt
+-- the form of each entry
 abbrev pub ext_entry_form : ExtEntry → EntryForm
 ext_entry_form (entries.Permutation o) = at_offset (codes "Permutation") o
 ext_entry_form entries.Challenge = bare (codes "Challenge")
 ext_entry_form entries.PermutationValue = bare (codes "PermutationValue")
 
--- by which names a reader finds each
+-- the names by which each entry is read
 unfoldable pub ext_entry_names : EntryNames ExtEntry
 ext_entry_names = record {
   offsets = (codes "Permutation", λ o. entries.Permutation o) ∷ [];
   bares = (codes "Challenge", entries.Challenge) ∷ (codes "PermutationValue", entries.PermutationValue) ∷ [];
 }
 
--- what is written, what spells an entry, and what a reader finds
+-- writing, spelling and reading an entry
 abbrev pub ext_entry_plain : Plain ExtEntry
 ext_entry_plain = named_plain ext_entry_form ext_entry_names
 

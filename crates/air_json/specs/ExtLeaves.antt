@@ -1,4 +1,4 @@
--- Extension leaves: how they are spelt, and how they are read in a node.
+-- Spelling and reading extension leaves in a node.
 use Rattle.std.specs.Prelude.{◌≡◌, ℕ, ◌⊎◌, List, Result, Ok, Err, option_map, codes, if◌then◌else◌, bytes_eq, ok_or}
 use Rattle.serde_json.specs.Data.{Data, array}
 use Rattle.air_field.specs.Ring.{AlgebraOver}
@@ -23,13 +23,13 @@ use Rattle.air_json.specs.BaseLeaves.{base_kind}
 use Rattle.air_json.specs.declared.errors.FlatError.{FlatError}
 use Rattle.air_json.specs.declared.errors.FlatError.TheVariants as faults
 
--- a Base leaf is spelt by a whole list of base nodes, a constant by its coefficients
+-- a Base leaf is spelt by a list of base nodes of its own, a constant by its coefficients
 abbrev pub SpellsWhole : {F EF : Type 0} {p : ℕ} → Modular F p → Basis F EF → Data → WholeLeaf F EF → Type 0
 SpellsWhole m basis d (whole_base t) = IsCase (codes "Base") (λ c. IsList (base_kind m) c t) d
 SpellsWhole m basis d (whole_variable v) = IsCase (codes "ExtVariable") (λ c. SpellsExtVariable c v) d
 SpellsWhole m basis d (whole_constant e) = IsCase (codes "ExtConstant") (λ c. c ≡ array (number_items m (basis.coefficients e))) d
 
--- what is written: a Base leaf's list begun anew
+-- the JSON value written for a leaf; the list of a Base leaf is independent of the outer list
 abbrev pub WritesWhole : {F EF : Type 0} {p : ℕ} → Modular F p → Basis F EF → Data → WholeLeaf F EF → Type 0
 WritesWhole m basis d (whole_base t) = IsCase (codes "Base") (λ c. IsWritten (base_kind m) c t) d
 WritesWhole m basis d (whole_variable v) = d ≡ case_data (codes "ExtVariable") (ext_variable_plain.written v)
@@ -40,9 +40,9 @@ whole_leaf_term basis (whole_base t) = term_of base_term t
 whole_leaf_term basis (whole_variable v) = leaf_term (ext_entry_leaf v.entry v.index)
 whole_leaf_term basis (whole_constant c) = ext_const_term (basis.coefficients c)
 
--- ---- which fault has a value that spells none
+-- ---- the fault of a value that spells no leaf
 
--- a fault inside the list of a leaf, told at the place of the leaf's node
+-- a fault in a leaf's nested list, reported at the place of the leaf's node
 abbrev pub at_place : ℕ → FlatError → FlatError
 at_place place faults.Memory = faults.Memory
 at_place place faults.DegreeOverflow = faults.DegreeOverflow
@@ -52,8 +52,8 @@ at_place place (faults.Operand inner i) = faults.Operand place i
 at_place place (faults.WrongDegree inner d found) = faults.WrongDegree place d found
 at_place place (faults.NotCanonical inner) = faults.NotCanonical place
 
--- A Base leaf has the first fault of its list, told at the leaf's place; a constant of so many whole numbers, one of
--- them past the canonical ones, isn't canonical.
+-- A Base leaf has the first fault of its list, reported at the leaf's place. A constant of `count` whole numbers has
+-- the fault `NotCanonical` if one of them is not below the modulus.
 abbrev pub OwnWholeFault : {F : Type 0} {p : ℕ} → Modular F p → ℕ → ℕ → Data → FlatError → Type 0
 OwnWholeFault {p = p} m count place d f =
     IsCase (codes "Base") (λ c. (g : FlatError) × HasFault (base_kind m) c g × (f ≡ at_place place g)) d
@@ -62,7 +62,7 @@ OwnWholeFault {p = p} m count place d f =
 abbrev pub WholeFault : {F EF : Type 0} {p : ℕ} → Modular F p → Basis F EF → ℕ → ℕ → Data → FlatError → Type 0
 WholeFault m basis count = OwnFaultOr (SpellsWhole m basis) (OwnWholeFault m count)
 
--- ---- how a reader finds it
+-- ---- reading
 
 abbrev pub faults_at : {A : Type 0} → ℕ → Result A FlatError → Result A FlatError
 faults_at place (Ok a) = Ok a
@@ -81,10 +81,10 @@ ext_leaf_with m a count place name c =
     else (if bytes_eq name (codes "ExtConstant") then (ext_constant_at m a count place c >>= λ e. Ok (whole_constant e))
     else Err (faults.Shape place)))
 
--- the leaf that is spelt by a value in the node at a place, or its fault
+-- the leaf that a value spells in the node at a place, or the value's fault
 unfoldable pub ext_leaf_at : {F EF : Type 0} {p : ℕ} → Modular F p → AlgebraOver F EF → ℕ → ℕ → Data → Result (WholeLeaf F EF) FlatError
 ext_leaf_at m a count place d = case_or (Err (faults.Shape place)) (ext_leaf_with m a count place) (only_member d)
 
--- extension leaves, with so many coefficients
+-- extension leaves with `count` coefficients
 abbrev pub ext_kind : {F EF : Type 0} {p : ℕ} → Modular F p → AlgebraOver F EF → Basis F EF → ℕ → Kind (WholeLeaf F EF) F
 ext_kind m a basis count = record { spells = SpellsWhole m basis; writes = WritesWhole m basis; fault = WholeFault m basis count; leaf_at = ext_leaf_at m a count; term = whole_leaf_term basis }

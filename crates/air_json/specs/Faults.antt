@@ -1,4 +1,4 @@
--- The faults of the wire form.
+-- Faults of JSON values.
 use Rattle.air_core.specs.declared.errors.AirError.{AirError}
 use Rattle.air_core.specs.declared.errors.AirError.TheVariants as air
 use Rattle.air_field.specs.declared.errors.RingError.{RingError}
@@ -6,12 +6,12 @@ use Rattle.air_field.specs.declared.errors.RingError.TheVariants as ring
 use Rattle.air_json.specs.declared.errors.FlatError.{FlatError}
 use Rattle.air_json.specs.declared.errors.FlatError.TheVariants as faults
 
--- what a pool refused
+-- the fault for an error of a pool
 abbrev pub ring_fault : RingError → FlatError
 ring_fault ring.Memory = faults.Memory
 ring_fault ring.DegreeOverflow = faults.DegreeOverflow
 
--- what a fault is to a builder, or to a call on an AIR
+-- the error of a builder, or of a call on an AIR, for a fault
 abbrev pub air_fault : FlatError → AirError
 air_fault faults.Memory = air.Memory
 air_fault faults.DegreeOverflow = air.DegreeOverflow

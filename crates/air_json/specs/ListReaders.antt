@@ -1,4 +1,4 @@
--- A list of nodes that is read node by node.
+-- Reading a list of nodes node by node.
 use Rattle.std.specs.Prelude.{◌≡◌, ◌≢◌, ℕ, ◌<◌, ◌-◌, List, [], length, map, All, Option, Some, None, Result, Ok, Err, IfOk, IfErr, ok_or}
 use Rattle.std.specs.List.{slice_get}
 use Rattle.serde_json.specs.Data.{Data}
@@ -11,18 +11,17 @@ use Rattle.air_json.specs.declared.errors.FlatError.{FlatError}
 use Rattle.air_json.specs.declared.errors.FlatError.TheVariants as faults
 use Rattle.air_symbolic.specs.Pools.{Pool, size}
 
--- a reader's numbers, unless it has met a fault
+-- the reader's numbers, or the fault that it has met
 abbrev pub numbers_or : List ℕ → Option FlatError → Result (List ℕ) FlatError
 numbers_or ids None = Ok ids
 numbers_or ids (Some f) = Err f
 
--- the last of them
+-- the last of the numbers
 abbrev pub last_number : Result (List ℕ) FlatError → Result ℕ FlatError
 last_number reader = reader >>= λ ids. ok_or (slice_get ids (length ids - 1)) faults.EmptyList
 
--- The reader has read the values ds: each is a node behind those before it, and the reader has
--- numbers of the pool p with their trees, as tree sees them; or one is none, and the reader has the
--- first fault, unless memory ran out.
+-- The reader has read the values ds. Either each is a node after those before it, and the reader has numbers of the
+-- pool p with their trees, as `tree` gives them; or one isn't, and the reader has the first fault, or `Memory`.
 pub record HasRead {U A S F : Type 0} (kind : Kind S F) (tree : Pool U A → ℕ → Option (Tree S))
     (p : Pool U A) (ds : List Data) (reader : Result (List ℕ) FlatError) : Type 0 where
   pub here : IfOk reader (λ ids. All (λ i. i < size p) ids)

@@ -1,4 +1,4 @@
--- Which values are lists of nodes, and which tree each is.
+-- Lists of nodes, and the tree of each list.
 use Rattle.std.specs.Prelude.{◌≡◌, ℕ, ◌+◌, ◌<◌, ◌^◌, ◌⊎◌, max, List, [], ◌∷◌, ◌++◌, Option, Some, None, codes, ⊤}
 use Rattle.std.specs.List.{slice_get}
 use Rattle.serde_json.specs.Data.{Data, Items, no_items, item}
@@ -11,7 +11,7 @@ use Rattle.air_json.specs.NodeFaults.{NodeFault}
 use Rattle.air_json.specs.declared.errors.FlatError.{FlatError}
 use Rattle.air_json.specs.declared.errors.FlatError.TheVariants as faults
 
--- the field of this name is the place of t, earlier in the list
+-- the field of this name is the place of t, which is earlier in the list
 abbrev pub HasOperand : {S : Type 0} → List ℕ → List (Tree S) → Tree S → Data → Type 0
 HasOperand name done t c = (i : ℕ) × HasWhole name i c × (slice_get done i ≡ Some t)
 
@@ -22,7 +22,7 @@ HasTwoOperands done t u d c = HasWhole (codes "degree_multiple") d c × HasOpera
 abbrev pub HasOneOperand : {S : Type 0} → List (Tree S) → Tree S → ℕ → Data → Type 0
 HasOneOperand done t d c = HasWhole (codes "degree_multiple") d c × HasOperand (codes "x") done t c
 
--- Behind nodes with the trees of done, the value is a node with this tree: its operands stand earlier, and its stated
+-- After nodes with the trees `done`, the value is a node with this tree: its operands are earlier, and its stated
 -- degree is the tree's, which fits `usize`.
 abbrev pub SpellsNode : {S F : Type 0} → Kind S F → List (Tree S) → Data → Tree S → Type 0
 SpellsNode kind done d (leaf_tree a) = IsCase (codes "Leaf") (λ c. kind.spells c a) d
@@ -31,14 +31,14 @@ SpellsNode kind done d (sub_tree t u) = IsCase (codes "Sub") (HasTwoOperands don
 SpellsNode kind done d (neg_tree t) = IsCase (codes "Neg") (HasOneOperand done t (degree kind.term t)) d
 SpellsNode kind done d (mul_tree t u) = IsCase (codes "Mul") (HasTwoOperands done t u (degree kind.term t + degree kind.term u)) d × (degree kind.term t + degree kind.term u < 2 ^ 64)
 
--- the values are nodes with these trees, each behind those before it
+-- the values are nodes with these trees, each after those before it
 abbrev pub AreNodes : {S F : Type 0} → Kind S F → List (Tree S) → Items → List (Tree S) → Type 0
 AreNodes kind done no_items [] = ⊤
 AreNodes kind done no_items (t ∷ ts) = ⊥
 AreNodes kind done (item d ds) [] = ⊥
 AreNodes kind done (item d ds) (t ∷ ts) = SpellsNode kind done d t × AreNodes kind (done ++ t ∷ []) ds ts
 
--- the value is a list of nodes, the last of which, the root, has the tree o
+-- the value is a list of nodes whose last node, the root, has the tree o
 pub record IsList {S F : Type 0} (kind : Kind S F) (d : Data) (o : Option (Tree S)) : Type 0 where
   pub items : Items
   pub before : List (Tree S)
@@ -47,7 +47,7 @@ pub record IsList {S F : Type 0} (kind : Kind S F) (d : Data) (o : Option (Tree 
   pub is : as_array d ≡ Some items
   pub nodes : AreNodes kind [] items (before ++ root ∷ [])
 
--- the first node that is none has this fault, and all before it are nodes
+-- the first value that isn't a node has this fault
 abbrev pub FirstFault : {S F : Type 0} → Kind S F → List (Tree S) → Items → FlatError → Type 0
 FirstFault kind done no_items f = ⊥
 FirstFault {S} kind done (item d ds) f = NodeFault kind done d f ⊎ ((t : Tree S) × SpellsNode kind done d t × FirstFault kind (done ++ t ∷ []) ds f)

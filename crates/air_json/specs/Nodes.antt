@@ -1,4 +1,4 @@
--- How a list of nodes is read, fault by fault.
+-- Reading a list of nodes, fault by fault.
 use Rattle.std.specs.Prelude.{◌≡◌, ℕ, ◌+◌, ◌-◌, ◌^◌, max, List, [], ◌∷◌, ◌++◌, length, Option, Some, None, Result, Ok, Err, codes, if◌then◌else◌, nat_lt, ◌==◌, bytes_eq, ok_or}
 use Rattle.std.specs.List.{slice_get}
 use Rattle.serde_json.specs.Data.{Data, Items, no_items, item}
@@ -13,8 +13,8 @@ use Rattle.air_json.specs.declared.operations.Operation.TheVariants.{Add, Sub, M
 use Rattle.air_json.specs.declared.errors.FlatError.{FlatError}
 use Rattle.air_json.specs.declared.errors.FlatError.TheVariants as faults
 
--- Leaves of a kind: what spells one, which of these is written, which fault has a value that spells none, in the node
--- at a place; how one is read there, and its term.
+-- A kind of leaf: which values spell a leaf, which of these is written, the fault of a value that spells none in the
+-- node at a place, how a leaf is read there, and a leaf's term.
 pub record Kind (S F : Type 0) : Type 1 where
   pub spells : Data → S → Type 0
   pub writes : Data → S → Type 0
@@ -22,7 +22,7 @@ pub record Kind (S F : Type 0) : Type 1 where
   pub leaf_at : ℕ → Data → Result S FlatError
   pub term : S → Term F
 
--- read is what is spelt, refused what has a fault, and written one spelling
+-- reading answers exactly the leaf that is spelt or the fault, and the written value is one spelling
 pub record KindLaws {S F : Type 0} (kind : Kind S F) : Type 0 where
   pub found : (place : ℕ) (d : Data) (a : S) → kind.leaf_at place d ≡ Ok a → kind.spells d a
   pub again : (place : ℕ) (d : Data) (a : S) → kind.spells d a → kind.leaf_at place d ≡ Ok a
@@ -31,9 +31,9 @@ pub record KindLaws {S F : Type 0} (kind : Kind S F) : Type 0 where
   pub written : (d : Data) (a : S) → kind.writes d a → kind.spells d a
   pub once : (d e : Data) (a : S) → kind.writes d a → kind.writes e a → d ≡ e
 
--- ---- a node that stands behind the trees of done
+-- ---- a node after nodes with the trees `done`
 
--- an operand, which stands earlier
+-- an operand, which must be earlier
 abbrev pub operand_of : {X : Type 0} → ℕ → ℕ → Option X → Result X FlatError
 operand_of place i None = Err (faults.Operand place i)
 operand_of place i (Some x) = Ok x
@@ -41,11 +41,11 @@ operand_of place i (Some x) = Ok x
 unfoldable pub operand : {X : Type 0} → List X → ℕ → Result X FlatError
 operand done i = operand_of (length done) i (slice_get done i)
 
--- the tree, where its degree is the stated one
+-- the tree, if its degree is the stated one
 abbrev pub check_degree : {X : Type 0} → ℕ → ℕ → ℕ → X → Result X FlatError
 check_degree place d found t = if d == found then Ok t else Err (faults.WrongDegree place d found)
 
--- ---- operations: a negative has one operand, which stands for both
+-- ---- operations; the only operand of a negative is used for both
 
 abbrev pub operations : List (List ℕ × Operation)
 operations = (codes "Add", Add) ∷ (codes "Sub", Sub) ∷ (codes "Mul", Mul) ∷ (codes "Neg", Neg) ∷ []
@@ -57,25 +57,25 @@ second_of Sub c = whole_at (codes "y") c
 second_of Mul c = whole_at (codes "y") c
 second_of Neg c = whole_at (codes "x") c
 
--- the stated degree and the operands' places
+-- the stated degree and the places of the operands
 unfoldable pub operands_of : Operation → Data → Option (ℕ × ℕ × ℕ)
 operands_of op c = all_three (λ d x y. (d, x, y)) (whole_at (codes "degree_multiple") c) (whole_at (codes "x") c) (second_of op c)
 
--- the degree, where it fits `usize`
+-- the degree, if it fits `usize`
 abbrev pub joined_degree : Operation → ℕ → ℕ → Result ℕ FlatError
 joined_degree Add a b = Ok (max a b)
 joined_degree Sub a b = Ok (max a b)
 joined_degree Mul a b = if nat_lt (a + b) (2 ^ 64) then Ok (a + b) else Err faults.DegreeOverflow
 joined_degree Neg a b = Ok a
 
--- the tree
+-- the tree of an operation
 abbrev pub joined_tree : {S : Type 0} → Operation → Tree S → Tree S → Tree S
 joined_tree Add t u = add_tree t u
 joined_tree Sub t u = sub_tree t u
 joined_tree Mul t u = mul_tree t u
 joined_tree Neg t u = neg_tree t
 
--- the operands, trees or numbers with these degrees, where the degree is stated right
+-- the operands, as trees or numbers with these degrees, if the stated degree is right
 unfoldable pub operands_at : {X : Type 0} → (X → ℕ) → List X → Operation → Data
     → Result (X × X) FlatError
 operands_at degree_in done op c = do
@@ -85,7 +85,7 @@ operands_at degree_in done op c = do
   found ← joined_degree op (degree_in x) (degree_in y)
   check_degree (length done) p.0 found (x, y)
 
--- a node of an operation, of one that may be none
+-- the tree of a node with this operation, or the node's first fault
 abbrev pub operation_at : {S F : Type 0} → Kind S F → List (Tree S) → Operation → Data → Result (Tree S) FlatError
 operation_at kind done op c =
     operands_at (degree kind.term) done op c >>= λ p. Ok (joined_tree op p.0 p.1)
@@ -102,16 +102,16 @@ node_with kind done name c =
     if bytes_eq name (codes "Leaf") then leaf_node_at kind (length done) c
     else operation_or kind done (find_name operations name) c
 
--- the tree of the node that is spelt by a value, behind the trees of done, or its first fault
+-- the tree of the node that a value spells after nodes with the trees `done`, or its first fault
 unfoldable pub node_of_value : {S F : Type 0} → Kind S F → List (Tree S) → Data → Result (Tree S) FlatError
 node_of_value kind done d = case_or (Err (faults.Shape (length done))) (node_with kind done) (only_member d)
 
--- the trees of done and of the further nodes, or the first fault
+-- the trees of `done` and of the further nodes, or the first fault
 unfoldable pub nodes_from : {S F : Type 0} → Kind S F → List (Tree S) → Items → Result (List (Tree S)) FlatError
 nodes_from kind done no_items = Ok done
 nodes_from kind done (item d ds) = node_of_value kind done d >>= λ t. nodes_from kind (done ++ t ∷ []) ds
 
--- the trees of the nodes so far and of one more, or the first fault
+-- the trees of the nodes so far and of the next one, or the first fault
 abbrev pub node_more : {S F : Type 0} → Kind S F → Result (List (Tree S)) FlatError → Data → Result (List (Tree S)) FlatError
 node_more kind so_far d = so_far >>= λ done. node_of_value kind done d >>= λ t. Ok (done ++ t ∷ [])
 
@@ -119,7 +119,7 @@ node_more kind so_far d = so_far >>= λ done. node_of_value kind done d >>= λ t
 unfoldable pub last_tree : {S : Type 0} → List (Tree S) → Result (Tree S) FlatError
 last_tree ts = ok_or (slice_get ts (length ts - 1)) faults.EmptyList
 
--- the tree of the root of the list that is spelt by a value, or the first fault
+-- the tree of the root of the list that a value spells, or the first fault
 unfoldable pub root_of : {S F : Type 0} → Kind S F → Data → Result (Option (Tree S)) FlatError
 root_of kind d = do
   ds ← ok_or (as_array d) (faults.Shape 0)

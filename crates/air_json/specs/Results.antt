@@ -1,4 +1,4 @@
--- What reading gives: a value, or the first fault.
+-- The results of reading: a value, or the first fault.
 use Rattle.std.specs.Prelude.{◌≡◌, List, map, Option, Some, Result, Ok, Err, ⊤}
 use Rattle.air_json.specs.declared.errors.FlatError.{FlatError}
 use Rattle.air_json.specs.declared.errors.FlatError.TheVariants as faults
@@ -8,14 +8,14 @@ abbrev pub ◌>>=◌ : {A B : Type 0} → Result A FlatError → (A → Result B
 (Ok x) >>= f = f x
 (Err e) >>= f = Err e
 
--- what is read is there, and so is each element of a list that is read
+-- the result as an optional value, and as a list of optional values
 abbrev pub as_some : {A : Type 0} → Result A FlatError → Result (Option A) FlatError
 as_some read = read >>= λ a. Ok (Some a)
 
 abbrev pub all_some : {A : Type 0} → Result (List A) FlatError → Result (List (Option A)) FlatError
 all_some read = read >>= λ all. Ok (map Some all)
 
--- What a function returned, seen by view, is what reading gives, unless memory ran out.
+-- The answer of a function, as `view` gives it, is the result of reading, or `Memory`.
 abbrev pub Fails : {Y : Type 0} → FlatError → Result Y FlatError → Type 0
 Fails faults.Memory read = ⊤
 Fails f read = read ≡ Err f

@@ -6,15 +6,15 @@ use Rattle.serde_json.specs.Find.{get}
 abbrev pub number_data : ℕ → Data
 number_data n = number (unsigned n)
 
--- a case with contents: an object of one member
+-- a case with contents: an object with one member
 abbrev pub case_data : List ℕ → Data → Data
 case_data name contents = object (member name contents no_members)
 
--- d is the case of this name, with such contents
+-- d is the case of this name, and its contents satisfy P
 abbrev pub IsCase : List ℕ → (Data → Type 0) → Data → Type 0
 IsCase name P d = (c : Data) × (d ≡ case_data name c) × P c
 
--- d has a field of this name, with such a value, whatever else it has
+-- d has a field of this name whose value satisfies P; other fields are ignored
 abbrev pub HasField : List ℕ → (Data → Type 0) → Data → Type 0
 HasField name P d = (c : Data) × (get name d ≡ Some c) × P c
 

@@ -1,4 +1,4 @@
--- Lists of whole numbers: how they are spelt, and how they are found.
+-- Spelling and reading lists of whole numbers.
 use Rattle.std.specs.Prelude.{◌≡◌, ℕ, ◌≤◌, ◌⊎◌, List, [], ◌∷◌, length, map, Option, Some, option_and_then}
 use Rattle.serde_json.specs.Data.{Data, array, Items}
 use Rattle.serde_json.specs.Find.{get, as_array}
@@ -16,17 +16,17 @@ wholes_data ns = array (whole_items ns)
 abbrev pub HasWholes : List ℕ → List ℕ → Data → Type 0
 HasWholes name ns d = get name d ≡ Some (wholes_data ns)
 
--- one of the numbers is at or past the modulus p
+-- one of the numbers is not below the modulus p
 abbrev pub SomePast : ℕ → List ℕ → Type 0
 SomePast p [] = ⊥
 SomePast p (n ∷ ns) = (p ≤ n) ⊎ SomePast p ns
 
--- the value is a list of so many whole numbers, one of which is no canonical one
+-- the value is a list of `count` whole numbers, one of which is not below the modulus
 abbrev pub HasPast : ℕ → ℕ → Data → Type 0
 HasPast p count d = (ns : List ℕ) × (d ≡ wholes_data ns) × (length ns ≡ count) × SomePast p ns
 
--- ---- how a reader finds them
+-- ---- reading
 
--- the list of whole numbers that is a field of an object, whatever else the object has
+-- the list of whole numbers that is a field of an object; other fields are ignored
 unfoldable pub wholes_at : List ℕ → Data → Option (List ℕ)
 wholes_at name d = option_and_then (λ e. option_and_then wholes (as_array e)) (get name d)

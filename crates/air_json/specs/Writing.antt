@@ -1,4 +1,4 @@
--- How a list is written: where what is written stands, and what is left to be written.
+-- Writing a list: the places of written nodes, and the remaining steps.
 use Rattle.std.specs.Prelude.{◌≡◌, ℕ, ◌<◌, ◌^◌, Bool, true, false, List, [], ◌∷◌, Option, Some, codes}
 use Rattle.std.specs.List.{slice_get}
 use Rattle.serde_json.specs.Data.{Data}
@@ -14,7 +14,7 @@ use Rattle.air_json.specs.Written.{two_data, one_data}
 abbrev pub Placed : List (Option ℕ) → ℕ → Type 0
 Placed places x = (i : ℕ) × (slice_get places x ≡ Some (Some i))
 
--- the operands of a node have places, and a leaf is valid
+-- each operand of the node has a place; a leaf is valid
 abbrev pub IsWritable : {A : Type 0} → (A → Type 0) → List (Option ℕ) → SymbolicExpr A → Type 0
 IsWritable valid places (Leaf a) = valid a
 IsWritable valid places (Add x y d) = Placed places x × Placed places y
@@ -22,14 +22,14 @@ IsWritable valid places (Sub x y d) = Placed places x × Placed places y
 IsWritable valid places (Neg x d) = Placed places x
 IsWritable valid places (Mul x y d) = Placed places x × Placed places y
 
--- the case of this name with the stated degree, and the operands' places
+-- the case of this name with the stated degree and the operands' places
 abbrev pub NamesTwo : List ℕ → List (Option ℕ) → ℕ → ℕ → ℕ → Data → Type 0
 NamesTwo name places x y d v = (i : Placed places x) × (j : Placed places y) × (v ≡ case_data name (two_data d i.0 j.0))
 
 abbrev pub NamesOne : List ℕ → List (Option ℕ) → ℕ → ℕ → Data → Type 0
 NamesOne name places x d v = (i : Placed places x) × (v ≡ case_data name (one_data d i.0))
 
--- the value is what is written for the node
+-- the value is the one written for the node
 abbrev pub IsNodeValue : {A S F : Type 0} → Kind S F → (A → S) → List (Option ℕ) → SymbolicExpr A → Data → Type 0
 IsNodeValue kind seen places (Leaf a) v = IsCase (codes "Leaf") (λ c. kind.writes c (seen a)) v
 IsNodeValue kind seen places (Add x y d) v = NamesTwo (codes "Add") places x y d v
@@ -37,10 +37,10 @@ IsNodeValue kind seen places (Sub x y d) v = NamesTwo (codes "Sub") places x y d
 IsNodeValue kind seen places (Neg x d) v = NamesOne (codes "Neg") places x d v
 IsNodeValue kind seen places (Mul x y d) v = NamesTwo (codes "Mul") places x y d v × (d < 2 ^ 64)
 
--- ---- what is left
+-- ---- the remaining steps
 
--- A step looks at an expression, or writes it: once it is looked at, its operands come first, the left one before the
--- right one. The last step of a list is the next.
+-- A step visits an expression (false) or writes it (true). Visiting an expression adds steps that visit its operands,
+-- left before right, and then write it. The next step is the last of the list.
 abbrev pub steps_of : {A : Type 0} → ℕ → SymbolicExpr A → List (ℕ × Bool)
 steps_of n (Leaf a) = (n, true) ∷ []
 steps_of n (Add x y d) = (n, true) ∷ (y, false) ∷ (x, false) ∷ []

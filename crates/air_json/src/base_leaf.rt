@@ -16,22 +16,22 @@ use air_symbolic::BaseLeaf;
 use serde_json::{Value, json};
 use std::alloc::{AllocError, Global};
 
-/// The field element with this number.
+/// The field element of this number.
 pub(crate) fn class_of<F: PrimeField64>(number: usize) -> F
     ensures { result ≡ F.residues.class number }
 {
     F::from_u64(number as u64)
 }
 
-/// Whether the number is some element's canonical one.
+/// Whether the number is below the modulus, and so the canonical number of an element.
 pub(crate) fn is_canonical<F: PrimeField64>(number: usize) -> bool
     ensures { result ≡ is_canonical F.ORDER_U64 number }
 {
     (number as u64) < F::ORDER_U64
 }
 
-/// The field element that the value spells by its canonical number: `Shape` where it is no whole number that fits 64
-/// bits, and `NotCanonical` where that is at or past the modulus, each with the place `at`.
+/// The field element that the value spells by its canonical number. Fails with `Shape` if the value is no whole number
+/// that fits 64 bits, and with `NotCanonical` if the number is not below the modulus, each with the place `at`.
 #[tactic(auto, unfolding(crate::specs::BaseLeaves::element_at))]
 pub fn element_from<F: PrimeField64>(at: usize, value: &Value) -> Result<F, FlatError>
     ensures { result ≡ element_at F.residues at (view value.now) }
@@ -44,7 +44,7 @@ pub fn element_from<F: PrimeField64>(at: usize, value: &Value) -> Result<F, Flat
     }
 }
 
-// The leaf of this name with contents.
+// The leaf of this name with these contents.
 fn leaf_with<F: PrimeField64>(
     at: usize,
     name: &str,

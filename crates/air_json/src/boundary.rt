@@ -1,4 +1,4 @@
-//! Ends of a trace, and cells that hold public values.
+//! Ends of a trace, and boundary values.
 ghost use Rattle.std.specs.Prelude.{◌≡◌};
 ghost use Rattle.serde_json.specs.View.{view};
 

@@ -1,4 +1,4 @@
-//! Cases with contents, as they are written.
+//! Cases with contents, as JSON values.
 ghost use Rattle.std.specs.Prelude.{◌≡◌, IfOk};
 ghost use Rattle.serde_json.specs.View.{view};
 ghost use Rattle.air_json.specs.Spelling.{case_data};
@@ -7,7 +7,7 @@ ghost use Rattle.air_json.specs.EntryForms.{at_offset, form_data, indexed_object
 use serde_json::{Value, json};
 use std::alloc::{AllocError, Global};
 
-/// The case of this name.
+/// The case of this name with these contents.
 pub(crate) fn case_value(alloc: Global, name: &str, contents: Value) -> Result<Value, AllocError>
     ensures { IfOk result (λ v. view v ≡ case_data name.now (view contents)) }
 {

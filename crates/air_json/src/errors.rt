@@ -1,4 +1,4 @@
-//! Why a value could not be read, or written.
+//! Why a value could not be read or written.
 ghost use Rattle.std.specs.Prelude.{◌≡◌};
 ghost use Rattle.air_json.specs.Faults.{ring_fault, air_fault};
 ghost use Rattle.air_json.specs.declared.errors.FlatError.TheVariants.{Memory};
@@ -8,39 +8,40 @@ use air_field::RingError;
 use std::alloc::{AllocError, AllocFailed};
 use thiserror::Error;
 
-/// What is wrong with a value: in a list of nodes, the first fault in the list's order. A fault in the list inside a
-/// Base leaf is told at the place of the leaf's node; an operand, and degrees, stay those of the list inside.
+/// Why a value could not be read or written; for a list of nodes that is read, its first fault. A fault in a list
+/// nested in a `Base` leaf is reported at the place of the leaf's node, but its operand and degrees are those of the
+/// nested list.
 #[derive(Clone, Copy, Debug, PartialEq, Eq, Error)]
 pub enum FlatError {
-    /// A growth was refused.
+    /// Out of memory.
     #[error("memory was refused")]
     Memory,
-    /// A degree passes `usize`.
+    /// A degree exceeds `usize`.
     #[error("a degree passes the greatest count")]
     DegreeOverflow,
-    /// A wire value hasn't its form.
+    /// A wire value has the wrong form.
     #[error("the value at place {at} hasn't its form")]
     Shape {
         at: usize,
     },
-    /// A flat list has no node.
+    /// A list of nodes is empty.
     #[error("the list of nodes is empty")]
     EmptyList,
-    /// An operand of a node stands at the node's own place in its list, or past it. Where that list stands inside a
-    /// Base leaf, `at` is the place of the leaf's node, and the operand that in the list inside.
+    /// An operand of a node isn't earlier in the list than the node. For a list nested in a `Base` leaf, `at` is the
+    /// place of the leaf's node, and `operand` is relative to the nested list.
     #[error("the node at place {at} has the operand {operand}, which doesn't stand before it")]
     Operand {
         at: usize,
         operand: usize,
     },
-    /// A node states another degree than it has.
+    /// A node states a degree that isn't its own.
     #[error("the node at place {at} states degree {stated}, and has {found}")]
     WrongDegree {
         at: usize,
         stated: usize,
         found: usize,
     },
-    /// A field number is at or past the modulus.
+    /// A field number is not below the modulus.
     #[error("the value at place {at} has a number at or past the modulus")]
     NotCanonical {
         at: usize,

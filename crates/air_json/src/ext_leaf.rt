@@ -29,7 +29,7 @@ use air_symbolic::{BaseLeaf, ExprId, ExprPool, ExtLeaf};
 use serde_json::Value;
 use std::alloc::{AllocError, Global};
 
-// The whole numbers of a list.
+// The whole numbers of a list. Fails with `Shape` if an item is none.
 pub(crate) fn whole_numbers(
     alloc: Global,
     at: usize,
@@ -48,7 +48,7 @@ pub(crate) fn whole_numbers(
     Ok(numbers)
 }
 
-// The elements with these numbers, each below the modulus.
+// The field elements of these numbers, each of which must be below the modulus; else fails with `NotCanonical`.
 fn canonical_elements<F: PrimeField64>(
     alloc: Global,
     at: usize,
@@ -84,7 +84,7 @@ fn elements_from<F: PrimeField64>(
     canonical_elements(alloc, at, &numbers)
 }
 
-// The element with these coefficients.
+// The element with the coefficients that the value spells.
 fn constant_from<F: PrimeField64, EF: ExtensionField<F>>(
     alloc: Global,
     at: usize,
@@ -97,7 +97,7 @@ fn constant_from<F: PrimeField64, EF: ExtensionField<F>>(
     Ok(EF::from_basis_coefficients(&elements))
 }
 
-// The fault, told at the place of the leaf's node.
+// The fault, moved to the place of the leaf's node.
 fn at_place(at: usize, fault: FlatError) -> FlatError
     ensures { result ≡ at_place at fault }
 {
@@ -116,7 +116,7 @@ fn at_place(at: usize, fault: FlatError) -> FlatError
     }
 }
 
-// The base expression of the list inside a Base leaf.
+// The base expression of the list nested in a `Base` leaf.
 fn base_from<F: PrimeField64>(
     alloc: Global,
     at: usize,

@@ -1,4 +1,4 @@
-//! What callers rely on, as the contracts of functions.
+//! Facts that callers rely on, as contracts of functions.
 ghost use Rattle.std.specs.Prelude.{◌≡◌, ◌↔◌, List, Option, Err};
 ghost use Rattle.serde_json.specs.Data.{Data};
 ghost use Rattle.air_symbolic.specs.Trees.{Tree};
@@ -10,7 +10,7 @@ ghost use Rattle.air_json.specs.declared.errors.FlatError.{FlatError};
 
 use crate::wire_leaf::WireLeaf;
 
-/// A value is a list of nodes of one tree at most, has one first fault at most, and never both.
+/// A value is a list of nodes of at most one tree, has at most one first fault, and never both.
 pub fn lists_are_read_one_way<A: WireLeaf>()
     ensures one_tree { (d : Data) (t u : Option (Tree A.View)) → IsList A.kind d t →
         IsList A.kind d u → t ≡ u }
@@ -20,8 +20,8 @@ pub fn lists_are_read_one_way<A: WireLeaf>()
         f ≡ g }
 {}
 
-/// What is written for a tree is a list of that tree, one value and no other; so two trees are equal exactly if their
-/// written lists are.
+/// The value written for a tree is a list of that tree, and only one value is written for it; so two trees are equal
+/// exactly if their written lists are.
 pub fn lists_are_written_one_way<A: WireLeaf>()
     ensures list { (d : Data) (t : Option (Tree A.View)) → IsWritten A.kind d t →
         IsList A.kind d t }
@@ -31,8 +31,8 @@ pub fn lists_are_written_one_way<A: WireLeaf>()
         IsWritten A.kind d u → t ≡ u }
 {}
 
-/// What is found of a node that isn't read is its fault, that it has no form or the first fault of its form; and each
-/// such fault is found.
+/// The reader answers exactly the fault of a node that it can't read: that the node has no form, or the first fault of
+/// its form.
 pub fn faults_of_nodes<A: WireLeaf>()
     ensures { (before : List (Tree A.View)) (d : Data) (f : FlatError) →
         (node_of_value A.kind before d ≡ Err f) ↔ NodeFault A.kind before d f }

@@ -1,4 +1,6 @@
-//! The wire form: entries, variables, boundary cells and expressions as JSON values.
+//! JSON values for entries, variables, boundary values and expressions.
+//!
+//! Calls fail only with `Memory` unless they say otherwise.
 #![tactic(auto)]
 
 mod base_leaf;

@@ -18,7 +18,7 @@ use serde_json::Value;
 use std::alloc::Global;
 use std::marker::Model;
 
-/// A list of nodes that is read into a pool node by node, so that no more than one need be there as a value: the
+/// Reads a list of nodes into a pool node by node, so that only one node at a time must exist as a value. It holds the
 /// expressions of the nodes so far, or the list's first fault.
 #[derive(Drop)]
 pub struct ListReader<A: SymLeaf> {
@@ -36,7 +36,7 @@ impl<A: SymLeaf> Model for ListReader<A> {
     ghost view = { λ l. numbers_or l.ids.items l.fault };
 }
 
-// The expressions, and that of the node that the value spells.
+// Reads the node that the value spells, and appends its expression.
 fn push_node<A: WireLeaf>(
     alloc: Global,
     pool: &mut ExprPool<A>,
@@ -53,7 +53,7 @@ fn push_node<A: WireLeaf>(
     Ok(())
 }
 
-// The same, unless there is a fault already; then the fault.
+// Does `push_node` unless there is a fault already; answers the fault, if any.
 fn fault_after<A: WireLeaf>(
     alloc: Global,
     pool: &mut ExprPool<A>,
@@ -93,7 +93,7 @@ fn last_or<A: WireLeaf>(ids: &[ExprId<A>], fault: Option<FlatError>) -> Result<E
 }
 
 impl<A: WireLeaf> ListReader<A> {
-    /// A reader before the list's first node.
+    /// A reader at the start of a list.
     pub fn new(alloc: Global) -> Self
         ensures { (p : Pool A.Base A)
             → HasRead A.kind (seen_at A.seen) p [] result }
@@ -104,7 +104,7 @@ impl<A: WireLeaf> ListReader<A> {
         }
     }
 
-    /// Reads the list's next node, which is inserted unfolded; behind a fault no further node is read.
+    /// Reads the list's next node, without simplifying it. After a fault it reads no further nodes.
     pub fn read_node(&mut self, alloc: Global, pool: &mut ExprPool<A>, value: &Value)
         requires owed { FitsBase A.reads pool.old }
         requires here { IfOk self.old (λ ids. All (λ i. i < size pool.old) ids) }
@@ -116,7 +116,7 @@ impl<A: WireLeaf> ListReader<A> {
         self.fault = fault_after(alloc, pool, &mut self.ids, self.fault, value);
     }
 
-    /// The expression of the root of the list that is read, its last node, or the list's first fault.
+    /// The expression of the list's root, which is its last node, or the list's first fault.
     pub fn root(self) -> Result<ExprId<A>, FlatError>
         ensures here { (p : Pool A.Base A) → (ds : List Data)
             → HasRead A.kind (seen_at A.seen) p ds self → IfOk result (λ i. i < size p) }
@@ -131,7 +131,7 @@ impl<A: WireLeaf> ListReader<A> {
     }
 }
 
-// The reader that has read the items.
+// The reader after reading the items.
 fn items_from<A: WireLeaf>(alloc: Global, pool: &mut ExprPool<A>, items: &[Value]) -> ListReader<A>
     requires { IsPool A.reads pool.old }
     ensures grown { Grown A.grows A.reads pool.old pool.new }
@@ -159,8 +159,8 @@ pub(crate) fn list_from<A: WireLeaf>(
     list.root()
 }
 
-/// Reads a list of nodes, which are inserted unfolded, and answers the expression of its root, the last node. Any
-/// other value is refused with the first fault in the list's order; nodes before it may stay in the pool.
+/// Reads a list of nodes, without simplifying them, and answers the expression of its root, the last node. Fails with
+/// the first fault of any other value; nodes before the fault may stay in the pool.
 pub fn from_flat_value<A: WireLeaf>(
     alloc: Global,
     pool: &mut ExprPool<A>,

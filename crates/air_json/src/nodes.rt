@@ -36,7 +36,7 @@ fn operand<A: WireLeaf>(
     }
 }
 
-// Whether the node at this place states the degree that was found.
+// Fails unless the node at this place states the degree that was found.
 fn check_degree(at: usize, degree: usize, found: usize) -> Result<(), FlatError>
     ensures { result ≡ check_degree at degree found tt }
 {
@@ -51,7 +51,7 @@ fn check_degree(at: usize, degree: usize, found: usize) -> Result<(), FlatError>
     }
 }
 
-// The degree of an expression, as a list states it.
+// The degree of an expression, as lists state it.
 fn degree_of<A: WireLeaf>(pool: &ExprPool<A>, id: ExprId<A>) -> usize
     requires pool { IsPool A.reads pool.now }
     requires here { id < size pool.now }
@@ -60,7 +60,7 @@ fn degree_of<A: WireLeaf>(pool: &ExprPool<A>, id: ExprId<A>) -> usize
     pool.degree_multiple(id)
 }
 
-// The operands of an operation, of which a negative has one and the same.
+// The operands of an operation; for a negative both are its only operand.
 #[tactic(auto, unfolding(crate::specs::Nodes::operands_at))]
 fn operands<A: WireLeaf>(
     pool: &ExprPool<A>,
@@ -86,7 +86,7 @@ fn operands<A: WireLeaf>(
     Ok((left, right))
 }
 
-// The operation of two expressions, whose degree fits.
+// Makes the operation of two expressions; its degree must fit.
 fn insert_operation<A: WireLeaf>(
     pool: &mut ExprPool<A>,
     operation: Operation,
@@ -143,7 +143,7 @@ fn leaf_from<A: WireLeaf>(
     Ok(pool.leaf(leaf)?)
 }
 
-/// The expression of the node that the value spells behind the expressions `ids`.
+/// The expression of the node that the value spells, where `ids` are the expressions of the nodes before it.
 #[tactic(auto, using(crate::proofs::NumberTrees::trees_length), unfolding(crate::specs::Nodes::node_of_value))]
 pub(crate) fn node_from<A: WireLeaf>(
     alloc: Global,

@@ -1,4 +1,4 @@
-//! The operations of a node: on two operands, or on one that stands for both.
+//! The operations of a node: on two operands, or on one that is used for both.
 ghost use Rattle.std.specs.Prelude.{◌≡◌, Some, IfSome, codes};
 ghost use Rattle.serde_json.specs.Find.{get};
 ghost use Rattle.serde_json.specs.View.{view};
@@ -43,8 +43,8 @@ fn second_of(operation: Operation, contents: &Value) -> Option<usize>
     }
 }
 
-// The members of an operation on two operands, where they come first, as in what is written: a search for each would
-// compare its name with those before it too.
+// The members of an operation on two operands, if they come first, as in written values. A search by name would also
+// compare each name with those before it.
 fn written_members(contents: &Value) -> Option<(&Value, &Value, &Value)>
     ensures degree { IfSome result (λ m. get (codes "degree_multiple") (view contents.now)
         ≡ Some (view m.0.now)) }
@@ -62,7 +62,7 @@ fn written_members(contents: &Value) -> Option<(&Value, &Value, &Value)>
     }
 }
 
-/// The stated degree and the operands' places.
+/// The stated degree and the places of the operands.
 #[tactic(auto, unfolding(crate::specs::Nodes::operands_of))]
 pub(crate) fn operands_of(operation: Operation, contents: &Value) -> Option<(usize, usize, usize)>
     ensures { result ≡ operands_of operation (view contents.now) }
@@ -84,7 +84,7 @@ pub(crate) fn operands_of(operation: Operation, contents: &Value) -> Option<(usi
     Some((degree, x, y))
 }
 
-/// The degree of the whole, of the operands' degrees.
+/// The degree of the operation, computed from the operands' degrees.
 pub(crate) fn joined_degree(operation: Operation, x: usize, y: usize) -> Result<usize, FlatError>
     ensures { result ≡ joined_degree operation x y }
 {

@@ -1,4 +1,4 @@
-//! The parts of a value that readers ask for.
+//! The parts of a value that readers look for.
 
 ghost use Rattle.std.specs.Prelude.{◌≡◌, option_map};
 ghost use Rattle.serde_json.specs.View.{view};
@@ -6,7 +6,7 @@ ghost use Rattle.air_json.specs.Parts.{only_member, as_whole_number, whole_at};
 
 use serde_json::Value;
 
-/// The name and the contents of a case: an object of exactly one member.
+/// The name and the contents of a case, which is an object with exactly one member.
 pub(crate) fn only_member(value: &Value) -> Option<(&str, &Value)>
     ensures { option_map (λ p. (p.0.now, view p.1.now)) result ≡ only_member (view value.now) }
 {
@@ -18,7 +18,7 @@ pub(crate) fn only_member(value: &Value) -> Option<(&str, &Value)>
     Some((name.as_str(), contents))
 }
 
-/// A whole number from 0 on that fits 64 bits.
+/// A nonnegative whole number that fits 64 bits.
 pub fn whole_number(value: &Value) -> Option<usize>
     ensures { result ≡ as_whole_number (view value.now) }
 {

@@ -1,4 +1,4 @@
-//! Values of Rust that keep no memory, and have a spelling.
+//! Types that own no memory and have a spelling.
 ghost use Rattle.std.specs.Prelude.{◌≡◌, IfOk};
 ghost use Rattle.serde_json.specs.View.{view};
 ghost use Rattle.air_json.specs.Plain.{Plain as PlainSpelling, PlainLaws};
@@ -8,15 +8,15 @@ use crate::spelled::Spelled;
 use serde_json::Value;
 use std::alloc::{AllocError, Global};
 
-/// What keeps no memory, and is spelt as a JSON value by itself: it is `Spelled`.
+/// A type that owns no memory, and is spelt as a JSON value by itself. Every `Plain` type is `Spelled`.
 pub trait Plain {
     ghost plain: { PlainSpelling Self };
 
-    /// The spelling.
+    /// The JSON value written for `self`.
     fn spell(&self, alloc: Global) -> Result<Value, AllocError>
         ensures { IfOk result (λ v. view v ≡ plain.written self.now) };
 
-    /// What the value spells, if anything.
+    /// The value that a JSON value spells, if any.
     fn read(value: &Value) -> Option<Self>
     where
         Self: Sized,

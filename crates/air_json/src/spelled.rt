@@ -1,4 +1,4 @@
-//! Values of Rust that have a spelling.
+//! Types that have a spelling.
 ghost use Rattle.std.specs.Prelude.{◌≡◌, ◌≢◌, IfOk, IfErr};
 ghost use Rattle.serde_json.specs.Data.{Data};
 ghost use Rattle.serde_json.specs.View.{view};
@@ -7,23 +7,23 @@ use crate::errors::FlatError;
 use serde_json::Value;
 use std::alloc::Global;
 
-/// What is spelt as a JSON value by itself, outside a list of nodes.
+/// A type whose values are spelt as JSON values by themselves, outside a list of nodes.
 pub trait Spelled {
-    // What is written.
+    // The JSON value that is written.
     ghost spelling: { Self → Data };
 
-    // The value spells it, by the rules of reading.
+    // The JSON value spells this value, by the rules of reading.
     ghost spells: { Data → Self → Type 0 };
 
-    // They hold the same: where no memory is kept, they are equal.
+    // Both have the same contents; without owned memory, they are equal.
     ghost same: { Self → Self → Type 0 } = { λ x y. x ≡ y };
 
-    /// The spelling.
+    /// The JSON value written for `self`.
     fn to_value(&self, alloc: Global) -> Result<Value, FlatError>
         ensures written { IfOk result (λ v. view v ≡ spelling self.now) }
         ensures refused { IfErr result (λ e. e ≡ FlatError.Memory) };
 
-    /// What the value spells; `Shape` at place 0 exactly where it spells nothing.
+    /// The value that a JSON value spells. Fails with `Shape` at place 0 exactly if it spells none, or with `Memory`.
     fn from_value(alloc: Global, value: &Value) -> Result<Self, FlatError>
     where
         Self: Sized,
@@ -32,7 +32,7 @@ pub trait Spelled {
         ensures nothing { IfErr result (λ e. e ≢ FlatError.Memory → (x : Self) → spells
             (view value.now) x → ⊥) };
 
-    // What is written spells what it was written for, and a value spells one at most.
+    // The written JSON value spells the value it was written for, and a JSON value spells at most one value.
     ghost is_spelt: { (x : Self) → spells (spelling x) x };
 
     ghost is_only: { (d : Data) (x y : Self) → spells d x → spells d y → same x y };

@@ -1,4 +1,4 @@
-//! Lists of whole numbers, for structs that have them as fields.
+//! Lists of whole numbers, as fields of structs.
 ghost use Rattle.std.specs.Prelude.{◌≡◌, IfOk, ok_or};
 ghost use Rattle.serde_json.specs.View.{view};
 ghost use Rattle.air_json.specs.Results.{Gives};
@@ -20,7 +20,8 @@ pub fn wholes_value(alloc: Global, numbers: &[usize]) -> Result<Value, AllocErro
     Ok(Value::from(items))
 }
 
-/// The list of whole numbers that is a field of an object; `Shape` at place 0 where there is none.
+/// The list of whole numbers that is a field of an object. Fails with `Shape` at place 0 if there is none, or with
+/// `Memory`.
 #[tactic(auto, unfolding(crate::specs::WholeNumbers::wholes_at))]
 pub fn wholes_at(alloc: Global, value: &Value, name: &str) -> Result<Vec<usize>, FlatError>
     ensures { Gives (λ v. v.items) result

@@ -1,4 +1,4 @@
-//! Leaves that stand in lists of nodes.
+//! Leaves that can occur in lists of nodes.
 ghost use Rattle.std.specs.Prelude.{◌≡◌, IfOk, IfErr};
 ghost use Rattle.serde_json.specs.View.{view};
 ghost use Rattle.air_json.specs.Nodes.{Kind, KindLaws};
@@ -10,16 +10,16 @@ use air_symbolic::SymLeaf;
 use serde_json::Value;
 use std::alloc::Global;
 
-/// A leaf that can be read from a value and written as one.
+/// A leaf that can be read from a JSON value and written as one.
 pub trait WireLeaf: SymLeaf {
-    // A leaf that holds no number of a pool.
+    // A leaf without numbers of a pool.
     ghost View: { Type 0 };
 
     ghost seen: { Self.Base → Self → View };
 
     ghost kind: { Kind View Self.F };
 
-    /// The leaf that the value spells in the node at place `at`; any other value is refused with its first fault.
+    /// The leaf that the value spells in the node at place `at`. Fails with the first fault of any other value.
     fn leaf_from_value(
         alloc: Global,
         at: usize,
@@ -33,7 +33,7 @@ pub trait WireLeaf: SymLeaf {
         ensures valid { IfOk result (λ a. (Self.reads base.new).valid a) }
         ensures read { Gives (seen base.new) result (kind.leaf_at at (view value.now)) };
 
-    /// What is written for the leaf.
+    /// The JSON value written for the leaf.
     fn leaf_value(&self, alloc: Global, base: &Self::Base) -> Result<Value, FlatError>
         requires sound { (Self.reads base.now).sound }
         requires valid { (Self.reads base.now).valid self.now }

@@ -1,4 +1,4 @@
-//! Lists of nodes that are written.
+//! Writing lists of nodes.
 ghost use Rattle.std.specs.Prelude.{◌≡◌, ◌<◌, ◌+◌, [], ◌∷◌, ◌++◌, true, false, map, replicate, IfOk, IfErr};
 ghost use Rattle.serde_json.specs.Data.{array};
 ghost use Rattle.serde_json.specs.View.{view, items_of};
@@ -15,14 +15,14 @@ use air_symbolic::{ExprId, ExprPool, SymbolicExpr};
 use serde_json::Value;
 use std::alloc::{AllocError, Global};
 
-// A table of places by number in which none is known.
+// A table of places by number, all unset.
 fn no_places(alloc: Global, count: usize) -> Result<Vec<Option<usize>>, AllocError>
     ensures { IfOk result (λ v. v.items ≡ replicate count None) }
 {
     vec![in alloc; None; count]
 }
 
-// How many numbers there are up to this one, which is the greatest that its list may name.
+// The size of a table for this number and all smaller ones; its list has no greater ones.
 fn numbers_to<A: WireLeaf>(pool: &ExprPool<A>, id: ExprId<A>) -> usize
     requires { id < size pool.now }
     ensures { result ≡ id + 1 }
@@ -60,7 +60,7 @@ fn push_two<A: WireLeaf>(
     Ok(())
 }
 
-// Looks at the operands, left before right, and writes the node behind them.
+// Pushes the steps that visit the operands, left before right, and then write the node.
 fn push_steps<A: WireLeaf>(
     steps: &mut Vec<(ExprId<A>, bool)>,
     id: ExprId<A>,
@@ -79,8 +79,8 @@ fn push_steps<A: WireLeaf>(
     }
 }
 
-// The nodes of the list. A node is written where it has no place yet and its operands have theirs, so each once; the
-// steps that are left stand on a stack, which is as deep as the tree may be.
+// The nodes of the list. A node is written once: when it has no place yet and its operands have theirs. The remaining
+// steps are on a stack, which grows with the depth of the tree.
 fn nodes_of<A: WireLeaf>(
     alloc: Global,
     pool: &ExprPool<A>,
@@ -113,7 +113,7 @@ fn nodes_of<A: WireLeaf>(
     Ok(items)
 }
 
-// The one node of a list whose root is a leaf.
+// The only node of a list whose root is a leaf.
 fn leaf_alone<A: WireLeaf>(alloc: Global, base: &A::Base, leaf: &A) -> Result<Vec<Value>, FlatError>
     requires sound { (A.reads base.now).sound }
     requires valid { (A.reads base.now).valid leaf.now }
@@ -127,7 +127,7 @@ fn leaf_alone<A: WireLeaf>(alloc: Global, base: &A::Base, leaf: &A) -> Result<Ve
     Ok(items)
 }
 
-// The nodes of the list; a leaf, as most Base leaves hold one, needs no table.
+// The nodes of the list. A leaf needs no table; most `Base` leaves hold just one.
 fn items_of<A: WireLeaf>(
     alloc: Global,
     pool: &ExprPool<A>,
@@ -145,7 +145,7 @@ fn items_of<A: WireLeaf>(
     }
 }
 
-/// The list of the expression's nodes: the subtrees of its tree in post-order, each once, at its first place.
+/// Writes the list of the expression's nodes: the subtrees of its tree in post-order, each once, at its first place.
 pub fn to_flat_value<A: WireLeaf>(
     alloc: Global,
     pool: &ExprPool<A>,

@@ -1,4 +1,4 @@
-//! One node of a list that is written.
+//! Writing one node of a list.
 ghost use Rattle.std.specs.Prelude.{◌≡◌, ◌<◌, length, Some, IfOk, IfErr, codes};
 ghost use Rattle.std.specs.List.{slice_get};
 ghost use Rattle.serde_json.specs.View.{view};
@@ -13,7 +13,7 @@ use air_symbolic::{ExprId, SymbolicExpr};
 use serde_json::{Value, json};
 use std::alloc::{AllocError, Global};
 
-/// The place of an expression in the list, if it is written.
+/// The place of an expression in the list, if it has been written.
 pub(crate) fn place_of<A: WireLeaf>(places: &[Option<usize>], id: ExprId<A>) -> Option<usize>
     requires { id < length places.now }
     ensures { slice_get places.now id ≡ Some result }
@@ -21,7 +21,7 @@ pub(crate) fn place_of<A: WireLeaf>(places: &[Option<usize>], id: ExprId<A>) -> 
     places[id.number()]
 }
 
-// The place of an expression that is written.
+// The place of an expression that has been written.
 fn place<A: WireLeaf>(places: &[Option<usize>], id: ExprId<A>) -> usize
     requires { Placed places.now id }
     ensures { slice_get places.now id ≡ Some (Some result) }
@@ -52,7 +52,7 @@ fn one_value(alloc: Global, name: &str, degree: usize, x: usize) -> Result<Value
     case_value(alloc, name, contents)
 }
 
-/// What is written for a leaf.
+/// The JSON value written for a leaf.
 pub(crate) fn leaf_node_value<A: WireLeaf>(
     alloc: Global,
     base: &A::Base,
@@ -68,7 +68,7 @@ pub(crate) fn leaf_node_value<A: WireLeaf>(
     Ok(case_value(alloc, "Leaf", contents)?)
 }
 
-/// What is written for a node whose operands are written.
+/// The JSON value written for a node whose operands have been written.
 pub(crate) fn node_value<A: WireLeaf>(
     alloc: Global,
     base: &A::Base,

@@ -1,4 +1,4 @@
--- Which elements of an extension are in the base field.
+-- Which elements of an extension lie in the base field.
 use Rattle.std.proofs.Common.{◌≡◌, ℕ, ◌-◌, ◌≤◌, List, [], ◌∷◌, length, replicate, get_or, refl, sym, ap, ◌∙◌, arith}
 use Rattle.std.specs.Prelude.{Option, Some, None}
 use Rattle.air_field.specs.Ring.{CommRing, AlgebraOver}

@@ -1,4 +1,4 @@
--- The table of degrees, one number after another.
+-- The table of degrees, extended number by number.
 use Rattle.std.proofs.Common.{◌≡◌, ◌⊎◌, ℕ, ◌+◌, ◌<◌, List, [], ◌∷◌, ◌++◌, length, Result, Err, refl, sym, ap, subst, ◌∙◌, arith, ⊎_elim}
 use Rattle.std.proofs.lemmas.List.{get_or_append_left, get_or_push, get_or_past}
 use Rattle.std.proofs.Math.ListN.{length-append}
@@ -20,7 +20,7 @@ node_degree-is w term at (node.Sub x y d) = refl
 node_degree-is w term at (node.Neg x d) = refl
 node_degree-is w term at (node.Mul x y d) = refl
 
--- a table with one degree more
+-- a table with one more degree
 pub more-degrees : (degree : ℕ → ℕ) (k : ℕ) (table new : List (Result ℕ RingError)) (y : Result ℕ RingError) → new ≡ table ++ y ∷ [] → AnswersDegrees degree k table → AnswersDegree (degree k) y → AnswersDegrees degree (k + 1) new
 more-degrees degree k table new y e h a = record {
   places = omega (arith, ap length e, length-append table (y ∷ []), h.places);

@@ -1,4 +1,4 @@
--- A key that is entered in a table: at a run's end, in a run of its own, or in the map.
+-- Entering a key in a table: at a run's end, in a new run, or in the map.
 use Rattle.std.proofs.Common.{◌≡◌, inl, inr, ⊎_elim, ℕ, zero, suc, true, false, List, [], ◌∷◌, ◌++◌, get_or, set, Option, None, Some, refl, sym, ap, subst, ◌∙◌, slice_get}
 use Rattle.std.specs.declared.cmp.Ordering.{Ordering}
 use Rattle.std.specs.declared.cmp.Ordering.TheVariants.{Equal}
@@ -12,7 +12,7 @@ use Rattle.std.proofs.lemmas.Option.{same_Some, get_or_from_slice_get}
 use Rattle.air_symbolic.specs.Numbering.{number_in, Entered}
 use Rattle.air_symbolic.proofs.Runs.{lookup-pushed, lookup-pushed_other, is_at-turned}
 
--- where neither of two finds anything, each finds nothing
+-- if two together find nothing, neither of them does
 option_or-none_left : (o p : Option ℕ) → option_or o p ≡ None → o ≡ None
 option_or-none_left None p e = refl
 option_or-none_left (Some x) p e = e
@@ -22,7 +22,7 @@ option_or-none_right None p e = e
 option_or-none_right (Some x) p e = absurd (cc)
 
 module _ {K : Type 0} {cmp : K → K → Ordering} (total : IsTotalOrder cmp) (key : K) (number : ℕ) where
-  -- new finds the number at the key, and what old finds at each key that isn't equal
+  -- new finds the number at the key, and agrees with old at every key that isn't equal
   abbrev IsEntry : (K → Option ℕ) → (K → Option ℕ) → Type 0
   IsEntry old new = (new key ≡ Some number) × ((k : K) → is_at (cmp k) key ≡ false → new k ≡ old k)
 
@@ -39,12 +39,12 @@ module _ {K : Type 0} {cmp : K → K → Ordering} (total : IsTotalOrder cmp) (k
       ))
       (cases_Bool (is_at (cmp k) key))
 
-  -- a key that goes behind a run which doesn't have it
+  -- an entry after a run that doesn't have the key
   entry-behind : (run : List (K × ℕ)) (old new : K → Option ℕ) → lookup (is_at (cmp key)) run ≡ None → IsEntry old new → IsEntry (λ k. option_or (lookup (is_at (cmp k)) run) (old k)) (λ k. option_or (lookup (is_at (cmp k)) run) (new k))
   entry-behind run old new none entry =
       (ap (λ o. option_or o (new key)) none ∙ entry.0, λ k n. ap (option_or (lookup (is_at (cmp k)) run)) (entry.1 k n))
 
-  -- a key that goes to a run's end
+  -- an entry at a run's end
   entry-at_end : (run : List (K × ℕ)) (behind : K → Option ℕ) → lookup (is_at (cmp key)) run ≡ None → IsEntry (λ k. option_or (lookup (is_at (cmp k)) run) (behind k)) (λ k. option_or (lookup (is_at (cmp k)) (run ++ (key, number) ∷ [])) (behind k))
   entry-at_end run behind none = (
     ap (λ o. option_or o (behind key)) (lookup-pushed (is_at (cmp key)) run (key, number) none ((Equal-is (cmp key key)).1 (tied_itself total key))),
@@ -70,14 +70,14 @@ module _ {K : Type 0} {cmp : K → K → Ordering} (total : IsTotalOrder cmp) (k
       entry-behind r (number_in cmp runs rest) (number_in cmp runs new) (option_or-none_left _ _ none) (entry-in_rest runs rest new updates (option_or-none_right _ _ none))
 
   module _ (exact : (k : K) → cmp key k ≡ Equal → key ≡ k) (runs : List (List (K × ℕ))) (rest : BTreeMap K ℕ) where
-    -- the run at a place has the key at its end now
+    -- the run at an index now has the key at its end
     pub Entered-in_run : (i : ℕ) (run lent new : List (K × ℕ)) → slice_get runs i ≡ Some run → lent ≡ get_or runs i lent → new ≡ lent ++ (key, number) ∷ [] → number_in cmp runs rest key ≡ None → Entered (number_in cmp runs rest) (number_in cmp (set runs i new) rest) key number
     Entered-in_run i run lent new at is pushed none =
         let same : run ≡ lent = sym (get_or_from_slice_get runs i run lent at) ∙ sym is in
         subst (λ (q : List (K × ℕ)). Entered (number_in cmp runs rest) (number_in cmp (set runs i q) rest) key number) (ap (λ q. q ++ (key, number) ∷ []) same ∙ sym pushed)
         (Entered-from exact (number_in cmp runs rest) (number_in cmp (set runs i (run ++ (key, number) ∷ [])) rest) (entry-in_run runs rest i run at none))
 
-    -- a run more has the key
+    -- a new run has the key
     pub Entered-in_new_run : number_in cmp runs rest key ≡ None → Entered (number_in cmp runs rest) (number_in cmp (runs ++ ((key, number) ∷ []) ∷ []) rest) key number
     Entered-in_new_run none = Entered-from exact (number_in cmp runs rest) (number_in cmp (runs ++ ((key, number) ∷ []) ∷ []) rest) (entry-in_new_run runs rest none)
 

@@ -1,4 +1,4 @@
--- What leaves weigh and are, case by case.
+-- Weights and constants of leaves, by cases.
 use Rattle.std.specs.Prelude.{◌≡◌, ℕ, List, [], None, refl}
 use Rattle.air_field.specs.Degree.{cached_weight, transition_weight, trace_weight}
 use Rattle.air_core.specs.ExtEntries.{ext_entry_leaf}

@@ -1,4 +1,4 @@
--- What a tree without extension-only leaves is as a base tree.
+-- Lowering a tree without extension-only leaves to a base tree.
 use Rattle.std.proofs.Common.{◌≡◌, ℕ, ◌+◌, ◌<◌, max, List, length, get_or, refl, sym, ap, ap₂, ◌∙◌, inl, inr, ◌⊎◌, Option, Some, None, subst}
 use Rattle.std.specs.Prelude.{option_map}
 use Rattle.air_field.specs.Degree.{degree_by, cached_weight}
@@ -24,7 +24,7 @@ use Rattle.air_symbolic.specs.declared.leaves.ext_leaf.ExtLeaf.{ExtLeaf}
 use Rattle.air_symbolic.specs.declared.leaves.ext_leaf.ExtLeaf.TheVariants.{Base, ExtVariable, ExtConstant}
 
 module _ {F EF : Type 0} (r : CommRing F) where
-  -- it stays while the base pool grows
+  -- the lowered tree stays as the base pool grows
   lowered_tree-kept : (u v : BaseNodes F) → ext_grows u v → (t : Tree (ExtLeaf F EF)) → AllValid (ext_valid u) t → lower_tree v t ≡ lower_tree u t
   lowered_tree-kept u v g (leaf_tree (Base i)) h = tree-kept r base_reads base_grows tt (base_leaf_laws r) u v i g h.here
   lowered_tree-kept u v g (leaf_tree (ExtVariable x)) h = refl
@@ -38,7 +38,7 @@ module _ {F EF : Type 0} (r : CommRing F) where
   lowered-kept u v g (Some t) h = lowered_tree-kept u v g t h
   lowered-kept u v g None h = refl
 
-  -- it is there where no extension-only leaf occurs
+  -- there is one if no extension-only leaf occurs
   lowered-valid : (u : BaseNodes F) (t : Tree (ExtLeaf F EF)) → AllValid (ext_valid u) t → (SomeExtOnly t → ⊥) → IsValidTree base_leaves.valid (lower_tree u t)
   lowered-valid u (leaf_tree (Base i)) h n = tree_of-valid base_leaves u.nodes h.pool.nodes i h.here
   lowered-valid u (leaf_tree (ExtVariable x)) h n = absurd (n tt)
@@ -48,7 +48,7 @@ module _ {F EF : Type 0} (r : CommRing F) where
   lowered-valid u (neg_tree t) h n = negative-valid base_leaves.valid (lower_tree u t) (lowered-valid u t h n)
   lowered-valid u (mul_tree t x) h n = both-valid base_leaves.valid mul_tree (λ _ _ p q. (p, q)) (lower_tree u t) (lower_tree u x) (lowered-valid u t h.0 (λ e. n (inl e))) (lowered-valid u x h.1 (λ e. n (inr e)))
 
-  -- and has the tree's term
+  -- and it has the tree's term
   module _ (basis : Basis F EF) (u : BaseNodes F) where
     lowered_two-term : (node : Tree (BaseLeaf F) → Tree (BaseLeaf F) → Tree (BaseLeaf F)) (term : Term F → Term F → Term F)
         → ((t x : Tree (BaseLeaf F)) → tree_term base_term (node t x) ≡ term (tree_term base_term t) (tree_term base_term x)) → (t x : Tree (ExtLeaf F EF))
@@ -72,7 +72,7 @@ module _ {F EF : Type 0} (r : CommRing F) where
     lowered-term (Some t) h n = lowered_tree-term t h n
     lowered-term None h n = absurd h
 
--- What is lowered of a node is made of what is lowered of its operands.
+-- The lowered tree of a node is made from the lowered trees of its operands.
 module _ {F EF : Type 0} (u : BaseNodes F) (node : Tree (ExtLeaf F EF) → Tree (ExtLeaf F EF) → Tree (ExtLeaf F EF)) where
   lowered-both : (lowered_node : Tree (BaseLeaf F) → Tree (BaseLeaf F) → Tree (BaseLeaf F))
       → ((t x : Tree (ExtLeaf F EF)) → lower_tree u (node t x) ≡ both lowered_node (lower_tree u t) (lower_tree u x))
@@ -86,7 +86,7 @@ module _ {F EF : Type 0} (u : BaseNodes F) where
   lowered-negative (Some t) h = refl
   lowered-negative None h = absurd h
 
--- An extension-only leaf of an operand is one of the node, and the other way.
+-- A node has an extension-only leaf exactly if one of its operands has.
 module _ {F EF : Type 0} (node : Tree (ExtLeaf F EF) → Tree (ExtLeaf F EF) → Tree (ExtLeaf F EF)) where
   pub either_ext_only : (valid : ExtLeaf F EF → Type 0) → ((t x : Tree (ExtLeaf F EF)) → SomeExtOnly t ⊎ SomeExtOnly x → SomeExtOnly (node t x))
       → (o p : Option (Tree (ExtLeaf F EF))) → IsValidTree valid o → IsValidTree valid p → HasExtOnly o ⊎ HasExtOnly p → HasExtOnly (both node o p)
@@ -122,7 +122,7 @@ HasTree-kept r u v i t g h = record {
   tree = tree-kept r base_reads base_grows tt (base_leaf_laws r) u v i g h.here ∙ h.tree;
 }
 
--- What is read at a lowered operand's place is the operand lowered.
+-- The table's entry for a lowered operand is that operand lowered.
 module _ {F EF : Type 0} (p q : ExtNodes F EF) (i : ℕ) (o : Option ℕ) where
   pub lowered-there : IsLoweredIn p q i o → o ≡ None → ⊥
   lowered-there h n = let e : Some h.0 ≡ None = sym h.1 ∙ n in cc
@@ -133,7 +133,7 @@ module _ {F EF : Type 0} (p q : ExtNodes F EF) (i : ℕ) (o : Option ℕ) where
       let same : h.0 ≡ b = cc in
       subst (λ k. HasTree q.base (lower p.base (tree_at p i)) k) same h.2
 
--- operands below k
+-- a property of all numbers below k holds for operands below k
 pub each_below : {A : Type 0} (P Q : ℕ → Type 0) (k : ℕ) (n : SymbolicExpr A) → ((i : ℕ) → i < k → P i → Q i) → OperandsBelow k n → EachOperand P n → EachOperand Q n
 each_below P Q k (Leaf a) f b h = tt
 each_below P Q k (Add x y d) f b h = (f x b.0 h.0, f y b.1 h.1)
@@ -141,7 +141,7 @@ each_below P Q k (Sub x y d) f b h = (f x b.0 h.0, f y b.1 h.1)
 each_below P Q k (Neg x d) f b h = f x b h
 each_below P Q k (Mul x y d) f b h = (f x b.0 h.0, f y b.1 h.1)
 
--- Number i, which can be lowered, is a node in the base pool over what its operands are lowered to.
+-- Number i, which can be lowered, is a node in the base pool over its operands' base numbers.
 module _ {F EF : Type 0} (r : CommRing F) {basis : Basis F EF} {p : ExtNodes F EF} (pool : IsPool (ext_reads basis) p) {table : List (Option ℕ)} {i : ℕ} (ready : CanLower p table i) where
   module _ {n : SymbolicExpr (ExtLeaf F EF)} (is : IsNode (ext_reads basis p.base) p.nodes i n) where
     pub operands-there : EachOperand (λ x. get_or table x None ≡ None → ⊥) n
@@ -154,7 +154,7 @@ module _ {F EF : Type 0} (r : CommRing F) {basis : Basis F EF} {p : ExtNodes F E
   valid_at : (x : ℕ) → x < length p.nodes → IsValidTree (ext_valid p.base) (tree_at p x)
   valid_at = tree_of-valid (ext_reads basis p.base) p.nodes pool.nodes
 
-  -- b stands for the operand x
+  -- b is the base number of the operand x
   record IsFor (x b : ℕ) : Type 0 where
     here : b < length p.base.nodes
     degree : cached_degree (ext_reads basis p.base) p.nodes x ≡ cached_degree base_leaves p.base.nodes b
@@ -169,7 +169,7 @@ module _ {F EF : Type 0} (r : CommRing F) {basis : Basis F EF} {p : ExtNodes F E
         tree = h.tree;
       }
 
-  -- a node over two operands, and what it is lowered to
+  -- a node over two operands, and its lowered node
   module _ (join : ℕ → ℕ → ℕ) (node : Tree (BaseLeaf F) → Tree (BaseLeaf F) → Tree (BaseLeaf F)) (ext_node : Tree (ExtLeaf F EF) → Tree (ExtLeaf F EF) → Tree (ExtLeaf F EF))
       (lowers : (t u : Tree (ExtLeaf F EF)) → lower_tree p.base (ext_node t u) ≡ both node (lower_tree p.base t) (lower_tree p.base u))
       (occurs : (t u : Tree (ExtLeaf F EF)) → SomeExtOnly t ⊎ SomeExtOnly u → SomeExtOnly (ext_node t u)) where

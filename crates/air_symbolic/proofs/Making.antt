@@ -1,4 +1,4 @@
--- What a simplified operation makes, in the words of rings that make their elements.
+-- The answers of simplified operations, in the words of rings.
 use Rattle.std.proofs.Common.{Result, Ok, Err, IfOk, IfErr, ◌≡◌, ℕ, ◌≤◌, ◌+◌, ◌^◌, refl, sym, ap, subst, ◌∙◌, arith}
 use Rattle.air_field.specs.declared.errors.RingError.{RingError}
 use Rattle.air_field.specs.declared.errors.RingError.TheVariants.{Memory, DegreeOverflow}
@@ -26,7 +26,7 @@ IfOk-both : {X E : Type 0} (r : Result X E) (P Q R : X → Type 0) → ((x : X) 
 IfOk-both (Ok x) P Q R f p q = f x p q
 IfOk-both (Err e) P Q R f p q = tt
 
--- An operation, answered, means its term.
+-- The answer of an operation means the operation's term.
 module _ {U A F E : Type 0} {r : CommRing F} {reads : U → Leaves A F} {q : Pool U A} (pool : IsPool reads q) (p : Pool U A) (node : Option (Tree A) → Option (Tree A) → Option (Tree A)) (simplify : Option F → Option F → Option (Simplified F)) (answer : Result ℕ E) where
   pub made-both : (x y : ℕ) (term : Term F → Term F → Term F) → ((t u v w : Term F) → Simplifies r t v → Simplifies r u w → Simplifies r (term t u) (term v w))
       → IfOk answer (IsOperation reads p q node simplify x y) → IfOk answer (λ z. Simplifies r (term_at reads q z) (term (term_at reads p x) (term_at reads p y)))
@@ -61,13 +61,13 @@ made-constant r reads q c z pool h =
     subst (λ t. Made (PoolHas reads) (PoolMeans reads r) t q z) h.constant.2.term
     (made-leaf r reads q a z pool record { here = h.here; tree = h.constant.1 })
 
--- A product is refused only where its degree passes `usize`.
+-- A product fails with `DegreeOverflow` only if its degree exceeds `usize`.
 pub refused-product : {X U A F : Type 0} (r : CommRing F) (reads : U → Leaves A F) (p : Pool U A) (x y : ℕ) (q : Result X RingError) → (q ≡ Err DegreeOverflow → 2 ^ 64 ≤ degree_by cached_weight (term_at reads p x) + degree_by cached_weight (term_at reads p y)) → IfErr q (RefusedOfBoth (PoolMeans reads r) PoolRefuses mul_term p x y)
 refused-product r reads p x y (Ok i) h = tt
 refused-product r reads p x y (Err Memory) h = λ t u k m. tt
 refused-product r reads p x y (Err DegreeOverflow) h = λ t u k m. omega (arith, h refl, k.simplifies.degree_le cached_weight, m.simplifies.degree_le cached_weight)
 
--- The leaf of a base expression means what that means.
+-- The leaf of a base expression means the terms that the base expression means.
 pub made-lifted : {F EF : Type 0} (r : CommRing F) (basis : Basis F EF) (p q : ExtNodes F EF) (x : ℕ) → q.base ≡ p.base → IsPool (ext_reads basis) q → (z : ℕ) → HasTree q (Some (leaf_tree (Base x))) z → Lifted (PoolHas (ext_reads basis)) (PoolMeans (ext_reads basis) r) (BaseMeans r basis) p q x z
 made-lifted r basis p q x same pool z m =
     let reads = ext_reads basis in
@@ -76,6 +76,6 @@ made-lifted r basis p q x same pool z m =
       λ t h. record { pool = pool; here = m.here; simplifies = subst (λ u. Simplifies r u t) (sym is) h.base.simplifies },
     )
 
--- What means a term means each term that is it.
+-- A number that means a term means each equal term.
 pub made-equal : {U A F : Type 0} (r : CommRing F) (reads : U → Leaves A F) (q : Pool U A) (u : Term F) (z : ℕ) → Made (PoolHas reads) (PoolMeans reads r) u q z → PoolHas reads q z × ((t : Term F) → t ≡ u → PoolMeans reads r q z t)
 made-equal r reads q u z m = (m.0, λ t h. subst (λ w. PoolMeans reads r q z w) (sym h) m.1)

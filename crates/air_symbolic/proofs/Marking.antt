@@ -1,4 +1,4 @@
--- Marks, one after another.
+-- Marking numbers one after another.
 use Rattle.std.proofs.Common.{◌≡◌, ◌⊎◌, ℕ, ◌+◌, ◌<◌, ◌≤◌, List, length, get_or, Contains, Option, None, Some, inl, inr, sym, subst, ◌∙◌, arith, ⊎_elim}
 use Rattle.std.proofs.lemmas.List.{get_or_past, get_or_default}
 use Rattle.air_symbolic.specs.Leaves.{Leaves}
@@ -24,14 +24,14 @@ operand_below k i (Neg x d) h e = subst (λ j. j < k) (sym e) h
 operand_below k i (Mul x y d) h (inl e) = subst (λ j. j < k) (sym e) h.0
 operand_below k i (Mul x y d) h (inr e) = subst (λ j. j < k) (sym e) h.1
 
--- a number has one node
+-- a number has only one node
 one_node : {A F : Type 0} (l : Leaves A F) (ns : List (SymbolicExpr A)) (i : ℕ) (m n : SymbolicExpr A) → IsNode l ns i m → IsNode l ns i n → m ≡ n
 one_node l ns i m n h k = some_inj (sym h.node ∙ k.node)
   where
     some_inj : Some m ≡ Some n → m ≡ n
     some_inj e = cc
 
--- one and then another was marked
+-- one number and then another was marked
 pub marked_both : (x y : ℕ) (a b d : List (Option ℕ)) → MarkedMore (λ i. i ≡ x) a b → MarkedMore (λ i. i ≡ y) b d
     → MarkedMore (λ i. (i ≡ x) ⊎ (i ≡ y)) a d
 marked_both x y a b d h g = record {
@@ -49,15 +49,15 @@ marked_both x y a b d h g = record {
 }
 
 module _ {A F : Type 0} (l : Leaves A F) (ns : List (SymbolicExpr A)) (roots : List ℕ) where
-  -- what is marked is named by its place, and reached
+  -- every mark is the number of its entry, and reached
   abbrev pub OnlyReached : List (Option ℕ) → Type 0
   OnlyReached marks = (i j : ℕ) → get_or marks i None ≡ Some j → (j ≡ i) × ReachedFrom l ns roots i
 
-  -- from a number on marked nodes have their operands marked
+  -- from number k on, marked nodes have their operands marked
   abbrev pub ClosedFrom : ℕ → List (Option ℕ) → Type 0
   ClosedFrom k marks = (i : ℕ) → k ≤ i → (n : SymbolicExpr A) → Marked marks i → IsNode l ns i n → EachOperand (λ j. Marked marks j) n
 
-  -- what is read at a place is the place's number, and marked
+  -- a mark read at entry k is k, and marked
   pub mark_read : (a : List (Option ℕ)) (k x : ℕ) (d : Option ℕ) → k < length a → OnlyReached a → get_or a k d ≡ Some x → (x ≡ k) × Marked a x
   mark_read a k x d lt h e =
       let at : get_or a k None ≡ Some x = get_or_default a k None d lt ∙ e in
@@ -74,7 +74,7 @@ module _ {A F : Type 0} (l : Leaves A F) (ns : List (SymbolicExpr A)) (roots : L
       none_some : None ≡ Some j → ⊥
       none_some e = cc
 
-  -- one node more was looked at
+  -- the operands of one more marked node were marked
   pub more_only : (k : ℕ) (n : SymbolicExpr A) (a b : List (Option ℕ)) → Marked a k → IsNode l ns k n → OnlyReached a → MarkedMore (λ i. IsOperand i n) a b → OnlyReached b
   more_only k n a b m is h g i j e =
       ⊎_elim

@@ -1,4 +1,4 @@
--- Degrees that pass `usize`.
+-- Degrees above `usize`.
 use Rattle.std.proofs.Common.{◌≡◌, ◌≢◌, refl, ℕ, zero, suc, ◌<◌, ◌≤◌, ◌^◌, List, [], ◌∷◌, length, map, get_or, inl, inr, subst, arith, Err}
 use Rattle.air_field.specs.declared.errors.RingError.{RingError}
 use Rattle.air_field.specs.declared.errors.RingError.TheVariants.{Memory, DegreeOverflow}
@@ -9,7 +9,7 @@ pub refused-degree : (d : ℕ) (e : RingError) → AnswersDegree d (Err e) → e
 refused-degree d Memory h n = absurd (n refl)
 refused-degree d DegreeOverflow h n = h
 
--- the degree at place i passes
+-- the degree at index i exceeds `usize`
 pub overflows-at : {X : Type 0} (f : X → ℕ) (xs : List X) (i : ℕ) (x : X) → i < length xs → x ≡ get_or xs i x → 2 ^ 64 ≤ f x → SomeOverflows (map f xs)
 overflows-at f [] i x b e h = absurd (omega arith)
 overflows-at f (y ∷ ys) zero x b e h = inl (subst (λ z. 2 ^ 64 ≤ f z) e h)

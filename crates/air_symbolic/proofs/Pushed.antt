@@ -1,4 +1,4 @@
--- One more node at a list's end, and in the table of its kind.
+-- Appending a node to a list and to the table of its kind.
 use Rattle.std.proofs.Common.{◌≡◌, ◌≢◌, ⊎_elim, ℕ, zero, suc, List, [], ◌∷◌, ◌++◌, length, refl, sym, ap, subst, ◌∙◌}
 use Rattle.std.specs.Prelude.{Option, None, Some, MatchOption}
 use Rattle.std.specs.List.{slice_get}
@@ -18,7 +18,7 @@ module _ {N : Type 0} where
   last_place (y ∷ xs) x = last_place xs x
 
 module _ {K N : Type 0} (node_of : K → ℕ → N) where
-  -- a node of this kind, which was not there
+  -- a node of this kind that wasn't in the list
   pub FindsNumbers-push : ((k l : K) (d e : ℕ) → node_of k d ≡ node_of l e → k ≡ l) → (nodes : List N) (old new : K → Option ℕ) (key : K) (stated : ℕ) (node : N) (number : ℕ) → node ≡ node_of key stated → number ≡ length nodes → ((i d : ℕ) → slice_get nodes i ≢ Some (node_of key d)) → FindsNumbers node_of nodes old → (old key ≡ None → Entered old new key number) → FindsNumbers node_of (nodes ++ node ∷ []) new
   FindsNumbers-push one nodes old new key stated node number is count absent finds entered k i =
       ⊎_elim
@@ -62,11 +62,11 @@ module _ {K N : Type 0} (node_of : K → ℕ → N) where
         (at_pushed nodes n (node_of k e.0) i e.1),
   )
 
-  -- a table that answers as before
+  -- a table with the same answers
   pub FindsNumbers-same : (nodes : List N) (old new : K → Option ℕ) → ((k : K) → new k ≡ old k) → FindsNumbers node_of nodes old → FindsNumbers node_of nodes new
   FindsNumbers-same nodes old new same finds k i = (λ e. (finds k i).0 (sym (same k) ∙ e), λ e. same k ∙ (finds k i).1 e)
 
-  -- what the table answers for a key is its node's number, or that it is nowhere
+  -- the table's answer for a key is its node's number, or the node isn't in the list
   pub FindsNumbers-find : (nodes : List N) (table : K → Option ℕ) (k : K) (answer : Option ℕ) → FindsNumbers node_of nodes table → answer ≡ table k → MatchOption answer ((i d : ℕ) → slice_get nodes i ≢ Some (node_of k d)) (λ i. (d : ℕ) × (slice_get nodes i ≡ Some (node_of k d)))
   FindsNumbers-find nodes table k None finds e = λ i d h. absurd (let known = (finds k i).1 (d, h) in cc)
   FindsNumbers-find nodes table k (Some i) finds e = (finds k i).0 (sym e)
@@ -74,7 +74,7 @@ module _ {K N : Type 0} (node_of : K → ℕ → N) where
 same-operands : (a b : ℕ × ℕ) → a.0 ≡ b.0 → a.1 ≡ b.1 → a ≡ b
 same-operands (a, b) (c, d) p q = cc
 
--- A node in the table of its kind: every other table finds what it found.
+-- A node in the table of its kind: every other table's answers stay.
 module _ {A : Type 0} {leaf : A → Option ℕ} {sum difference : ℕ × ℕ → Option ℕ} {negative : ℕ → Option ℕ} {product : ℕ × ℕ → Option ℕ} (node : SymbolicExpr A) (number : ℕ) where
   pub enters-leaf : {new : A → Option ℕ} (k : A) → node ≡ Leaf k → (leaf k ≡ None → Entered leaf new k number) → (nodes : List (SymbolicExpr A)) → number ≡ length nodes → IsNowhere nodes node → AreNumbered nodes leaf sum difference negative product → AreNumbered (nodes ++ node ∷ []) new sum difference negative product
   enters-leaf {new = new} k is entered nodes count absent old = record {
@@ -121,7 +121,7 @@ module _ {A : Type 0} {leaf : A → Option ℕ} {sum difference : ℕ × ℕ →
     products = FindsNumbers-push (λ k. Mul k.0 k.1) (λ a b d e h. same-operands a b (cc) (cc)) nodes product new k d node number is count (subst (λ n. IsNowhere nodes n) is absent) old.products entered;
   }
 
--- A table that answers as before, among the others.
+-- A table with the same answers, among the others.
 module _ {A : Type 0} {leaf : A → Option ℕ} {sum difference : ℕ × ℕ → Option ℕ} {negative : ℕ → Option ℕ} {product : ℕ × ℕ → Option ℕ} where
   pub keeps-leaf : {new : A → Option ℕ} → ((k : A) → new k ≡ leaf k) → (nodes : List (SymbolicExpr A)) → AreNumbered nodes leaf sum difference negative product → AreNumbered nodes new sum difference negative product
   keeps-leaf {new = new} same nodes old = record { leaves = FindsNumbers-same (λ a _. Leaf a) nodes leaf new same old.leaves; sums = old.sums; differences = old.differences; negatives = old.negatives; products = old.products }

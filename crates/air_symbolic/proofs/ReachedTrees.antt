@@ -1,4 +1,4 @@
--- What is reached of an extension pool, and the leaves of the extension alone in its trees.
+-- The nodes reached in an extension pool, and the extension-only leaves of its trees.
 use Rattle.std.proofs.Common.{◌≡◌, ◌⊎◌, ℕ, zero, suc, ◌+◌, ◌<◌, List, [], ◌∷◌, ◌++◌, length, get_or, Bool, true, false, Decides, Option, None, Some, IfSome, inl, inr, refl, sym, ap, subst, ◌∙◌, arith, ⊎_elim}
 use Rattle.std.proofs.lemmas.List.{get_or_default, get_or_append_left, get_or_push}
 use Rattle.std.specs.Prelude.{slice_get}
@@ -20,7 +20,7 @@ use Rattle.air_symbolic.specs.declared.pools.expr.SymbolicExpr.TheVariants as no
 use Rattle.air_symbolic.specs.declared.leaves.ext_leaf.ExtLeaf.{ExtLeaf}
 use Rattle.air_symbolic.proofs.Lowering.{each_below, HasTree-kept, lowered-kept, lowered-read, either_ext_only, ext_only_either, negative_ext_only, ext_only_negative}
 
--- an extension-only leaf in an operand is one in the node
+-- an extension-only leaf of an operand is one of the node
 module _ {F EF : Type 0} (l : Leaves (ExtLeaf F EF) F) (ns : List (SymbolicExpr (ExtLeaf F EF))) (wf : WellFormed l ns) where
   of_two : (node_of : Tree (ExtLeaf F EF) → Tree (ExtLeaf F EF) → Tree (ExtLeaf F EF)) → ((t u : Tree (ExtLeaf F EF)) → SomeExtOnly t ⊎ SomeExtOnly u → SomeExtOnly (node_of t u))
       → (i x y : ℕ) → x < length ns → y < length ns → (i ≡ x) ⊎ (i ≡ y) → HasExtOnly (tree_of ns i) → HasExtOnly (both node_of (tree_of ns x) (tree_of ns y))
@@ -46,7 +46,7 @@ leaf-ext-only (Some (sub_tree t u)) h = absurd h
 leaf-ext-only (Some (neg_tree t)) h = absurd h
 leaf-ext-only (Some (mul_tree t u)) h = absurd h
 
--- a mark that was tested
+-- a mark that was tested and isn't an extension-only leaf
 pub not-marked : {F EF : Type 0} (p : ExtNodes F EF) (marks : List (Option ℕ)) (k : ℕ) (o : Option ℕ) (b : Bool) → k < length marks → o ≡ get_or marks k o → Decides b (IsMarkedExtOnly p o) → b ≡ false → IsMarkedExtOnly p (get_or marks k None) → ⊥
 not-marked p marks k o b lt e d f h =
     let at : get_or marks k None ≡ o = get_or_default marks k None o lt ∙ sym e in
@@ -55,7 +55,7 @@ not-marked p marks k o b lt e d f h =
     cc
 
 module _ {F EF : Type 0} (l : Leaves (ExtLeaf F EF) F) (p : ExtNodes F EF) (r : ℕ) where
-  -- an extension-only leaf in what the root reaches is one in the root
+  -- if a number that the root reaches has an extension-only leaf, so has the root
   reached-ext-only : WellFormed l p.nodes → (i : ℕ) → ReachedFrom l p.nodes (r ∷ []) i → HasExtOnly (tree_at p i) → HasExtOnly (tree_at p r)
   reached-ext-only wf i (root (k, lt, e)) h =
       let z : k ≡ 0 = omega (arith, lt) in
@@ -65,28 +65,28 @@ module _ {F EF : Type 0} (l : Leaves (ExtLeaf F EF) F) (p : ExtNodes F EF) (r : 
       reached-ext-only wf j f (subst (λ t. HasExtOnly t) (sym is.tree) (operand-ext-only l p.nodes wf i n is.fits o h))
 
   module _ (marks : List (Option ℕ)) (reach : Reached l p.nodes (r ∷ []) marks) where
-    -- what is read at a place is the place's number, and marked
+    -- a mark read at entry k is k, marked and reached
     mark-at : (k i : ℕ) (o : Option ℕ) → k < length marks → o ≡ get_or marks k o → o ≡ Some i → (i ≡ k) × Marked marks i × ReachedFrom l p.nodes (r ∷ []) i
     mark-at k i o lt e s =
         let at : get_or marks k None ≡ Some i = get_or_default marks k None o lt ∙ sym e ∙ s in
         let m = reach.only_reached k i at in
         (m.0, subst (λ j. get_or marks j None ≡ Some i) (sym m.0) at, subst (λ j. ReachedFrom l p.nodes (r ∷ []) j) (sym m.0) m.1)
 
-    -- what is marked is of the pool
+    -- a marked number is in the pool
     pub mark-here : (k : ℕ) (o : Option ℕ) → k < length marks → o ≡ get_or marks k o → IfSome o (λ i. i < length p.nodes)
     mark-here k None lt e = tt
     mark-here k (Some i) lt e =
         let m = mark-at k i (Some i) lt e refl in
         omega (arith, m.0, lt, reach.places)
 
-    -- a marked extension-only leaf occurs in the root
+    -- a marked extension-only leaf occurs in the root's tree
     pub marked-ext-only : WellFormed l p.nodes → (k : ℕ) (o : Option ℕ) → k < length marks → o ≡ get_or marks k o → IsMarkedExtOnly p o → HasExtOnly (tree_at p r)
     marked-ext-only wf k None lt e h = absurd h
     marked-ext-only wf k (Some i) lt e h =
         let m = mark-at k i (Some i) lt e refl in
         reached-ext-only wf i m.2 (leaf-ext-only (tree_at p i) h)
 
-    -- where none is marked, none occurs in what is
+    -- if none is marked, no marked number's tree has one
     module _ (wf : WellFormed l p.nodes) (none : (i : ℕ) → i < length marks → IsMarkedExtOnly p (get_or marks i None) → ⊥) where
       none-in-node : (i : ℕ) (n : SymbolicExpr (ExtLeaf F EF)) → i < length marks → Marked marks i → tree_at p i ≡ unfold_node (tree_of p.nodes) n → EachOperand (λ j. HasExtOnly (tree_at p j) → ⊥) n → HasExtOnly (unfold_node (tree_of p.nodes) n) → ⊥
       none-in-node i (node.Leaf a) lt m t f h =
@@ -111,7 +111,7 @@ module _ {F EF : Type 0} (l : Leaves (ExtLeaf F EF) F) (p : ExtNodes F EF) (r : 
           let m : Marked marks r = reach.roots_marked 0 r (omega arith) in
           none-below (r + 1) r (omega arith) here m
 
-    -- What is marked can be lowered in s, which has p's nodes, once all marked numbers below are.
+    -- A marked number can be lowered in s, which has p's nodes, once all smaller marked numbers are lowered.
     pub mark-can-lower : (s : ExtNodes F EF) (table : List (Option ℕ)) (k : ℕ) (o : Option ℕ) → WellFormed l p.nodes → s.nodes ≡ p.nodes → (HasExtOnly (tree_at p r) → ⊥) → ((j : ℕ) → j < k → Marked marks j → LoweredAt s table j) → k < length marks → o ≡ get_or marks k o → IfSome o (CanLower s table)
     mark-can-lower s table k None wf same base made lt e = tt
     mark-can-lower s table k (Some i) wf same base made lt e =
@@ -126,7 +126,7 @@ module _ {F EF : Type 0} (l : Leaves (ExtLeaf F EF) F) (p : ExtNodes F EF) (r : 
               (λ j lo mj. made j (omega (arith, lo, m.0)) mj) is.below (reach.operands_marked i n m.1 is);
         }
 
-    -- the table gets one place more
+    -- the table gets one more entry
     pub more-lowered : (r : CommRing F) (basis : Basis F EF) (s t : ExtNodes F EF) (table new : List (Option ℕ)) (k : ℕ) (o y : Option ℕ) → IsPool (ext_reads basis) s → Grown ext_grows (ext_reads basis) s t → t.nodes ≡ s.nodes → s.nodes ≡ p.nodes → k < length marks → o ≡ get_or marks k o → length table ≡ k → new ≡ table ++ y ∷ [] → ((j : ℕ) → j < k → Marked marks j → LoweredAt s table j) → IfSome o (λ i. IsLoweredIn s t i y) → (j : ℕ) → j < k + 1 → Marked marks j → LoweredAt t new j
     more-lowered r basis s t table new k o y pool g same first lt e places is made now j below m =
         subst (λ (v : List (Option ℕ)). LoweredAt t v j) (sym is)
@@ -151,7 +151,7 @@ module _ {F EF : Type 0} (l : Leaves (ExtLeaf F EF) F) (p : ExtNodes F EF) (r : 
               ∙ ap (λ (ns : List (SymbolicExpr (ExtLeaf F EF))). lower t.base (tree_of ns i)) (sym same);
         }
 
--- what is lowered at the end is lowered as it was at first
+-- a number lowered at the end is the number as it was lowered at first
 pub lowered-at-first : {F EF : Type 0} (r : CommRing F) (basis : Basis F EF) (p s : ExtNodes F EF) (table : List (Option ℕ)) (i b : ℕ) → IsPool (ext_reads basis) p → Grown ext_grows (ext_reads basis) p s → s.nodes ≡ p.nodes → i < length p.nodes → LoweredAt s table i → get_or table i None ≡ Some b → HasTree s.base (lower p.base (tree_at p i)) b
 lowered-at-first r basis p s table i b pool g same here h e =
     let last : HasTree s.base (lower s.base (tree_at s i)) b = lowered-read s s i (get_or table i None) h b e in

@@ -1,4 +1,4 @@
--- Looking up keys in runs that ascend.
+-- Looking up keys in ascending runs.
 use Rattle.std.proofs.Common.{◌≡◌, ⊎_elim, ℕ, zero, suc, ◌<◌, ◌≤◌, Bool, true, false, cond, List, [], ◌∷◌, ◌++◌, length, get_or, None, Some, Result, Ok, Err, MatchResult, refl, sym, ap, subst, ◌∙◌, arith, slice_get}
 use Rattle.std.specs.declared.cmp.Ordering.{Ordering}
 use Rattle.std.specs.declared.cmp.Ordering.TheVariants.{Less, Equal, Greater}
@@ -16,12 +16,12 @@ use Rattle.air_symbolic.specs.Runs.{IsAscending, IsBelow}
 -- ---- Looking up
 
 module _ {K : Type 0} (test : K → Bool) where
-  -- none of the keys passes
+  -- no key passes the test
   lookup-none_at : (es : List (K × ℕ)) → ((i : ℕ) (d : K × ℕ) → slice_get es i ≡ Some d → test d.0 ≡ false) → lookup test es ≡ None
   lookup-none_at [] fails = refl
   lookup-none_at (e ∷ es) fails = lookup_tail test e es (fails 0 e refl) ∙ lookup-none_at es (λ i d. fails (suc i) d)
 
-  -- a key more, which passes where none did
+  -- an appended key that passes where no other did
   pub lookup-pushed : (es : List (K × ℕ)) (e : K × ℕ) → lookup test es ≡ None → test e.0 ≡ true → lookup test (es ++ e ∷ []) ≡ Some e.1
   lookup-pushed [] e none passes = lookup_head test e [] passes
   lookup-pushed (d ∷ es) e none passes =
@@ -30,7 +30,7 @@ module _ {K : Type 0} (test : K → Bool) where
       (λ (n : test d.0 ≡ false). lookup_tail test d (es ++ e ∷ []) n ∙ lookup-pushed es e (sym (lookup_tail test d es n) ∙ none) passes)
       (cases_Bool (test d.0))
 
-  -- a key more, which doesn't pass
+  -- an appended key that doesn't pass
   pub lookup-pushed_other : (es : List (K × ℕ)) (e : K × ℕ) → test e.0 ≡ false → lookup test (es ++ e ∷ []) ≡ lookup test es
   lookup-pushed_other [] e fails = lookup_tail test e [] fails
   lookup-pushed_other (d ∷ es) e fails = ap (λ o. cond (test d.0) (Some d.1) o) (lookup-pushed_other es e fails)
@@ -43,11 +43,11 @@ turned Equal = refl
 turned Greater = refl
 
 module _ {K : Type 0} {cmp : K → K → Ordering} (total : IsTotalOrder cmp) where
-  -- whether a key is equal to another, the other way round
+  -- comparing two keys for equality in either order
   pub is_at-turned : (key k : K) → is_at (cmp key) k ≡ is_eq (cmp k key)
   is_at-turned key k = ap is_eq (total.antisymm key k) ∙ turned (cmp k key)
 
-  -- where all keys are below one, it is not among them
+  -- a key above all keys of a run isn't in the run
   pub below-none : (run : List (K × ℕ)) (key : K) → IsBelow cmp run key → lookup (is_at (cmp key)) run ≡ None
   below-none run key below = lookup-none_at (is_at (cmp key)) run (λ i d e. is_at-turned key d.0 ∙ ap is_eq (below i d e))
 
@@ -72,7 +72,7 @@ module _ {K : Type 0} {cmp : K → K → Ordering} (total : IsTotalOrder cmp) wh
   rises-from a b key less Equal is = subst (λ o. ordering_index o ≤ 1) (sym (sym (alike_right total b key a is) ∙ less)) (omega arith)
   rises-from a b key less Greater is = index-at-most (cmp a key)
 
-  -- comparisons with a key rise along the run, as halving asks
+  -- comparisons with a key don't decrease along the run, as binary search requires
   rises : (run : List (K × ℕ)) (key : K) → IsAscending cmp run → IsNonDecreasingBy (λ (e : K × ℕ). ordering_index (cmp e.0 key)) run
   rises run key ascending i j d le within =
       ⊎_elim
@@ -80,7 +80,7 @@ module _ {K : Type 0} {cmp : K → K → Ordering} (total : IsTotalOrder cmp) wh
       (λ (ge : j ≤ i). let same : i ≡ j = omega (arith, le, ge) in subst (λ k. ordering_index (cmp (get_or run i d).0 key) ≤ ordering_index (cmp (get_or run k d).0 key)) same (omega arith))
       (cases_lt i j)
 
-  -- what halving says of a run is what looking up says
+  -- binary search in a run answers the same as `lookup`
   pub halved : (run : List (K × ℕ)) (key : K) (r : Result ℕ ℕ) → IsAscending cmp run → IsSearchInRange r (length run) → IsBinarySearchResult (λ (e : K × ℕ). cmp e.0 key) run r
       → MatchResult r (λ i. (d : K × ℕ) → lookup (is_at (cmp key)) run ≡ Some (get_or run i d).1) (λ _. lookup (is_at (cmp key)) run ≡ None)
   halved run key (Ok i) ascending within equal = λ d. found-at run key i (get_or run i d) ascending (slice_get-get_or run i d within) (equal d)

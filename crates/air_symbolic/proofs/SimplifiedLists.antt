@@ -14,7 +14,7 @@ use Rattle.air_symbolic.specs.SimplifiedLists.{JoinedFrom, IsJoined, SumStep, Pr
 use Rattle.air_symbolic.specs.declared.pools.simplify.Simplified.{Simplified}
 use Rattle.air_symbolic.specs.declared.pools.simplify.Simplified.TheVariants.{Constant, Left, Right, Negated}
 
--- What is simplified stays so while what lies under grows.
+-- Simplification stays valid as the base grows.
 module _ {A F : Type 0} (l m : Leaves A F) (k : Keeps l m) where
   pub tree_constant-kept : (t : Option (Tree A)) → IsValidTree l.valid t → tree_constant m.constant t ≡ tree_constant l.constant t
   tree_constant-kept None h = refl
@@ -44,19 +44,19 @@ Keeps-trans l m n h k = record {
   term = λ a v. k.term a (h.valid a v) ∙ h.term a v;
 }
 
--- total was joined of what was taken, and the rest is left
+-- total is the join of the elements taken so far, and `left` are the remaining ones
 pub record IsJoining {U A F W : Type 0} (reads : U → Leaves A F) (grows : U → U → Type 0) (Rest : W → U → Option (Tree A) → List (Option (Tree A)) → Type 0) (Goal : W → U → Type 0) (p s : Pool U A) (total : ℕ) (left : List ℕ) : Type 0 where
   pub grown : Grown grows reads p s
   pub total_in : total < length s.nodes
   pub left_in : All (λ x. x < length p.nodes) left
   pub leads : (v : W) (u : U) → grows s.base u → Rest v u (tree_at s total) (map (tree_at p) left) → Goal v u
 
--- the same list in other words
+-- the remaining list replaced by an equal one
 pub left-is : {U A F W : Type 0} {reads : U → Leaves A F} {grows : U → U → Type 0} {Rest : W → U → Option (Tree A) → List (Option (Tree A)) → Type 0} {Goal : W → U → Type 0} {p s : Pool U A} {total : ℕ} (left after : List ℕ) → left ≡ after → IsJoining reads grows Rest Goal p s total left → IsJoining reads grows Rest Goal p s total after
 left-is {reads = reads} {grows = grows} {Rest = Rest} {Goal = Goal} {p = p} {s = s} {total = total} left after e h =
     subst (λ l. IsJoining reads grows Rest Goal p s total l) e h
 
--- what is left of a sum and of a product, which answers v or overflows
+-- the remaining steps of a sum, of a product that answers v, and of a product that overflows
 module _ {U A F : Type 0} (r : CommRing F) (eq : F → F → Bool) (reads : U → Leaves A F) where
   abbrev pub SumRest : Option (Tree A) → U → Option (Tree A) → List (Option (Tree A)) → Type 0
   SumRest v u t ts = JoinedFrom (SumStep r eq (reads u)) t ts v
@@ -67,13 +67,13 @@ module _ {U A F : Type 0} (r : CommRing F) (eq : F → F → Bool) (reads : U �
   abbrev pub OverflowRest : Unit {0} → U → Option (Tree A) → List (Option (Tree A)) → Type 0
   OverflowRest v u t ts = OverflowsFrom r eq (reads u) t ts
 
--- total is the product of what was taken of xs, and none of its steps was refused
+-- total is the product of the elements of xs taken so far, and no step has overflowed
 pub record IsMultiplying {U A F : Type 0} (r : CommRing F) (eq : F → F → Bool) (reads : U → Leaves A F) (grows : U → U → Type 0) (p s : Pool U A) (xs : List ℕ) (total : ℕ) (left : List ℕ) : Type 0 where
   pub product : IsJoining reads grows (ProductRest r eq reads) (λ v u. IsJoined (reads u) r.one (ProductStep r eq (reads u)) (map (tree_at p) xs) v) p s total left
   pub overflow : IsJoining reads grows (OverflowRest r eq reads) (λ _ u. ProductOverflows r eq (reads u) (map (tree_at p) xs)) p s total left
 
 module _ {U A F : Type 0} (r : CommRing F) (eq : F → F → Bool) (reads : U → Leaves A F) (grows : U → U → Type 0) (empty : U) (laws : LeafLaws r reads grows empty) where
-  -- the steps of a sum and of a product, over what lies under later on
+  -- the steps of a sum and of a product, over a base that grows later
   module _ (s q : Pool U A) (u : U) (pool : IsPool reads s) (g : Grown grows reads s q) (later : grows q.base u) (x y : ℕ) (b : x < length s.nodes) (c : y < length s.nodes) where
     now : Keeps (reads s.base) (reads u)
     now = Keeps-trans (reads s.base) (reads q.base) (reads u) (laws.keeps s.base q.base g.base) (laws.keeps q.base u later)
@@ -119,7 +119,7 @@ module _ {U A F : Type 0} (r : CommRing F) (eq : F → F → Bool) (reads : U �
     leads = λ v u g rest. rest;
   }
 
-  -- of a list that a pattern takes apart
+  -- for a list taken apart by a pattern
   module _ (p : Pool U A) where
     pub sum_begun : (xs : List ℕ) (x : ℕ) → 0 < length xs → x ≡ get_or xs 0 x → All (λ i. i < length p.nodes) xs
         → IsJoining reads grows (SumRest r eq reads) (λ v u. IsJoined (reads u) r.zero (SumStep r eq (reads u)) (map (tree_at p) xs) v) p p x (take (length xs - 1) (drop 1 xs))
@@ -136,7 +136,7 @@ module _ {U A F : Type 0} (r : CommRing F) (eq : F → F → Bool) (reads : U �
           overflow = left-is ys _ (sym (take_rest (y ∷ ys) 1)) (begin_joining (OverflowRest r eq reads) p y ys h);
         }
 
-  -- one more element
+  -- one more element is taken
   pub take_one : {W : Type 0} (Rest : W → U → Option (Tree A) → List (Option (Tree A)) → Type 0) (Goal : W → U → Type 0) (p s q : Pool U A) (total x z : ℕ) (left : List ℕ) → Grown grows reads s q → z < length q.nodes → IsJoining reads grows Rest Goal p s total (x ∷ left)
       → ((v : W) (u : U) (ts : List (Option (Tree A))) → grows q.base u → Rest v u (tree_at q z) ts → Rest v u (tree_at s total) (tree_at p x ∷ ts))
       → IsJoining reads grows Rest Goal p q z left
@@ -187,7 +187,7 @@ module _ {U A F : Type 0} (r : CommRing F) (eq : F → F → Bool) (reads : U �
         (inl (subst (λ t. Overflows r eq (reads q.base) (tree_at s total) t) (element-stays p s x h.grown b)
         (overflows-later s q q.base (h.grown.pool pool) g (laws.same q.base) total x h.total_in (here-kept r reads grows empty laws p s x h.grown b) o.0 o.1)))
 
-  -- nothing is left
+  -- no element remains
   pub sum_ended : (p s : Pool U A) (xs : List ℕ) (total : ℕ) → IsJoining reads grows (SumRest r eq reads) (λ v u. IsJoined (reads u) r.zero (SumStep r eq (reads u)) (map (tree_at p) xs) v) p s total [] → IsSumOfAll reads r eq p s xs total
   sum_ended p s xs total h = record { here = h.total_in; tree = h.leads (tree_at s total) s.base (laws.same s.base) refl }
 
@@ -197,7 +197,7 @@ module _ {U A F : Type 0} (r : CommRing F) (eq : F → F → Bool) (reads : U �
 pub drop_item : {X : Type 0} (l : List X) (i : ℕ) (x : X) → i < length l → x ≡ get_or l i x → drop i l ≡ x ∷ drop (i + 1) l
 drop_item l i x h is = drop-cons l i x h ∙ (ap (λ y. y ∷ drop (suc i) l) (sym is) ∙ ap (λ n. x ∷ drop n l) (sym (add-one i)))
 
--- The item at place i begins what is left from there on, and is of the pool.
+-- The item at index i is the first of the remaining ones, and is in the pool.
 module _ {U A F W : Type 0} {r : CommRing F} {reads : U → Leaves A F} {grows : U → U → Type 0} {empty : U} (laws : LeafLaws r reads grows empty) {Rest : W → U → Option (Tree A) → List (Option (Tree A)) → Type 0} {Goal : W → U → Type 0} {p s : Pool U A} {total x : ℕ} (rest : List ℕ) (i : ℕ) where
   pub next_in : i < length rest → x ≡ get_or rest i x → IsJoining reads grows Rest Goal p s total (drop i rest) → x < length s.nodes
   next_in b is h =

@@ -1,4 +1,4 @@
--- The simplified sum or product of a list stands for the sum or product of its terms.
+-- The simplified sum or product of a list simplifies the sum or product of its terms.
 use Rattle.std.proofs.Common.{◌≡◌, ℕ, suc, ◌<◌, Bool, Decides, List, [], ◌∷◌, All, length, map, refl, sym, ap, ap₂, subst, ◌∙◌, arith}
 use Rattle.std.specs.Prelude.{Option, Some, None}
 use Rattle.air_field.specs.Ring.{CommRing}
@@ -21,7 +21,7 @@ abbrev TreesValid : {A : Type 0} → (A → Type 0) → List (Option (Tree A)) �
 TreesValid valid [] = Unit {0}
 TreesValid valid (t ∷ ts) = IsValidTree valid t × TreesValid valid ts
 
--- what is simplified is valid
+-- a simplified tree is valid
 IsSimplified-valid : {A F : Type 0} (l : Leaves A F) (t u node v : Option (Tree A)) (f : Option (Simplified F)) → IsValidTree l.valid t → IsValidTree l.valid u → IsValidTree l.valid node → IsSimplified l t u node f v → IsValidTree l.valid v
 IsSimplified-valid l t u plain v (Some (Constant c)) ht hu hn h = subst (IsValidTree l.valid) (sym h.1) h.2.valid
 IsSimplified-valid l t u plain v (Some Left) ht hu hn h = subst (IsValidTree l.valid) (sym h) ht

@@ -1,4 +1,4 @@
--- A simplified operation stands for its term.
+-- The answer of a simplified operation simplifies its term.
 use Rattle.std.proofs.Common.{Result, IfOk, Decides, ℕ, ◌<◌, length, ◌≡◌, Bool, true, false, cond, refl, sym, ap, ap₂, subst, ◌∙◌, arith}
 use Rattle.std.proofs.lemmas.Result.{IfOk-weaker}
 use Rattle.std.specs.Prelude.{Option, None, Some, option_map}
@@ -15,11 +15,11 @@ use Rattle.air_symbolic.specs.Simplification.{simplified_by_zero, simplified_sum
 use Rattle.air_symbolic.specs.declared.pools.simplify.Simplified.{Simplified}
 use Rattle.air_symbolic.specs.declared.pools.simplify.Simplified.TheVariants.{Constant, Left, Right, Negated}
 
--- an operand of the term x is the constant o, if it is one
+-- the operand with the term x equals the constant o, if it is one
 abbrev IsKnown : {F : Type 0} → CommRing F → Term F → Option F → Type 0
 IsKnown {F = F} r x o = (a : F) → o ≡ Some a → Same r (const_term a) x
 
--- what an operation on terms x and y simplifies to stands for the term z
+-- the answer of a simplified operation on terms x and y simplifies the term z
 abbrev CaseSimplifies : {F : Type 0} → CommRing F → Term F → Term F → Term F → Option (Simplified F) → Type 0
 CaseSimplifies r x y z None = Unit {0}
 CaseSimplifies r x y z (Some (Constant c)) = Same r (const_term c) z
@@ -37,7 +37,7 @@ module _ {F : Type 0} (r : CommRing F) where
   simplified_negative-is None x y h = tt
 
 module _ {F : Type 0} (r : CommRing F) (eq : F → F → Bool) (decides : (x y : F) → Decides (eq x y) (x ≡ y)) where
-  -- the case f where the operand u, the constant a, is b
+  -- the case f applies if the operand u, the constant a, equals b
   tested-simplifies : (a b : F) (u x y z : Term F) (f g : Option (Simplified F)) → IsKnown r u (Some a) → (Same r (const_term b) u → CaseSimplifies r x y z f) → CaseSimplifies r x y z g → CaseSimplifies r x y z (cond (eq a b) f g)
   tested-simplifies a b u x y z f g h k = cond-simplifies r (eq a b) x y z f g (λ e. k (h b (ap (λ (c : F). Some c) ((decides a b).0 e))))
 
@@ -73,7 +73,7 @@ module _ {F : Type 0} (r : CommRing F) (eq : F → F → Bool) (decides : (x y :
       (λ x y c. record { same = same_trans zero_sub (same_sub c same_refl); degree_le = λ w. omega arith })
       (λ x y c. record { same = same_trans sub_zero (same_sub same_refl c); degree_le = λ w. omega arith })
 
--- What an operation is: a node over its operands, what it simplifies to, and its term.
+-- The parts of an operation: its node, its simplification, and its term.
 pub record Operates {A F : Type 0} (r : CommRing F) (l : Leaves A F) (node : Option (Tree A) → Option (Tree A) → Option (Tree A)) (simplify : Option F → Option F → Option (Simplified F)) (term : Term F → Term F → Term F) : Type 0 where
   pub valid : (t u : Option (Tree A)) → IsValidTree l.valid t → IsValidTree l.valid u → IsValidTree l.valid (node t u)
   pub means : (t u : Option (Tree A)) → IsValidTree l.valid t → IsValidTree l.valid u → term_of l.term (node t u) ≡ term (term_of l.term t) (term_of l.term u)
@@ -126,7 +126,7 @@ module _ {A F : Type 0} (r : CommRing F) (l m : Leaves A F) (constant_is : (a : 
   by_tree v s x e h st =
       subst (λ y. Simplifies r y x) (sym (ap (term_of m.term) e ∙ term_of-kept l m k s h)) st
 
-  -- what is simplified stands for the node's term, where the case does
+  -- a simplified tree simplifies the node's term, if the case does
   each_case-simplifies : (t u node v : Option (Tree A)) (f : Option (Simplified F)) → IsValidTree l.valid t → IsValidTree l.valid u → IsValidTree l.valid node → CaseSimplifies r (term_of l.term t) (term_of l.term u) (term_of l.term node) f → IsSimplified m t u node f v → Simplifies r (term_of m.term v) (term_of l.term node)
   each_case-simplifies t u plain v None ht hu hn s h = by_tree v plain (term_of l.term plain) h hn (Simplifies-refl r (term_of l.term plain))
   each_case-simplifies t u plain v (Some (Constant c)) ht hu hn s h = by_const c v (term_of l.term plain) h s
@@ -136,7 +136,7 @@ module _ {A F : Type 0} (r : CommRing F) (l m : Leaves A F) (constant_is : (a : 
       by_tree v (option_map neg_tree u) (term_of l.term plain) h (negative-valid l.valid u hu)
       (subst (λ x. Simplifies r x (term_of l.term plain)) (sym (negative-term l.valid l.term u hu)) s)
 
-  -- an operation, simplified, stands for its term
+  -- a simplified operation simplifies its term
   pub operation-simplifies : {node : Option (Tree A) → Option (Tree A) → Option (Tree A)} {simplify : Option F → Option F → Option (Simplified F)} {term : Term F → Term F → Term F} → Operates r l node simplify term
       → (t u : Option (Tree A)) → IsValidTree l.valid t → IsValidTree l.valid u → (v : Option (Tree A)) → IsSimplified m t u (node t u) (simplify (tree_constant l.constant t) (tree_constant l.constant u)) v
       → Simplifies r (term_of m.term v) (term (term_of l.term t) (term_of l.term u))
@@ -147,11 +147,11 @@ module _ {A F : Type 0} (r : CommRing F) (l m : Leaves A F) (constant_is : (a : 
       let is_simplified = subst (λ z. CaseSimplifies r x y z f) (sym (o.means t u ht hu)) (o.simplifies _ _ x y (const-is t ht) (const-is u hu)) in
       subst (Simplifies r (term_of m.term v)) (o.means t u ht hu) (each_case-simplifies t u (node t u) v f ht hu (o.valid t u ht hu) is_simplified h)
 
--- So do the numbers that a pool's simplified calls answer.
+-- The same for the numbers that a pool's simplified calls answer.
 module _ {U A F E : Type 0} {r : CommRing F} {reads : U → Leaves A F} {grows : U → U → Type 0} {empty : U} (laws : LeafLaws r reads grows empty) {p q : Pool U A} (pool : IsPool reads p) (grown : Grown grows reads p q)
     {node : Option (Tree A) → Option (Tree A) → Option (Tree A)} {simplify : Option F → Option F → Option (Simplified F)} {term : Term F → Term F → Term F} (o : Operates r (reads p.base) node simplify term)
     {x y : ℕ} (x_in : x < length p.nodes) (y_in : y < length p.nodes) (answer : Result ℕ E) where
-  -- what is answered is the operation, and stands for its term
+  -- the answer is the operation, and simplifies its term
   abbrev pub Answers : Type 0
   Answers = IfOk answer (IsOperation reads p q node simplify x y) × IfOk answer (λ z. Simplifies r (term_at reads q z) (term (term_at reads p x) (term_at reads p y)))
 

@@ -1,4 +1,4 @@
--- What does not depend on the degree that a node states.
+-- Facts that don't depend on the degree that a node states.
 use Rattle.std.proofs.Common.{◌≡◌, ℕ, refl}
 use Rattle.std.specs.Prelude.{Option}
 use Rattle.air_symbolic.specs.Trees.{Tree}

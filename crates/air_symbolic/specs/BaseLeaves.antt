@@ -23,7 +23,7 @@ base_constant (Constant c) = Some c
 abbrev pub base_leaves : {F : Type 0} → Leaves (BaseLeaf F) F
 base_leaves = record { sound = ⊤; valid = λ _. ⊤; constant = base_constant; term = base_term }
 
--- with nothing under the pool
+-- base leaves, over the empty base
 abbrev pub base_reads : {F : Type 0} → ⊤ → Leaves (BaseLeaf F) F
 base_reads _ = base_leaves
 

@@ -14,7 +14,7 @@ use Rattle.air_symbolic.specs.declared.leaves.ext_leaf.ExtLeaf.TheVariants.{Base
 abbrev pub BaseNodes : Type 0 → Type 0
 BaseNodes F = Pool ⊤ (BaseLeaf F)
 
--- nothing under a new extension pool
+-- the base of a new extension pool
 abbrev pub no_base_nodes : {F : Type 0} → BaseNodes F
 no_base_nodes = record { base = tt; nodes = [] }
 
@@ -22,19 +22,19 @@ no_base_nodes = record { base = tt; nodes = [] }
 abbrev pub ext_grows : {F : Type 0} → BaseNodes F → BaseNodes F → Type 0
 ext_grows u v = Grown base_grows base_reads u v
 
--- a Base leaf names an expression of the base pool
+-- a Base leaf must name an expression of the base pool
 abbrev pub ext_valid : {F EF : Type 0} → BaseNodes F → ExtLeaf F EF → Type 0
 ext_valid u (Base i) = PoolHas base_reads u i
 ext_valid u (ExtVariable v) = ⊤
 ext_valid u (ExtConstant c) = ⊤
 
--- the term, a Base leaf having that of its base tree
+-- the term of a leaf; a Base leaf has the term of its base tree
 abbrev pub ext_term : {F EF : Type 0} → Basis F EF → BaseNodes F → ExtLeaf F EF → Term F
 ext_term basis u (Base i) = term_at base_reads u i
 ext_term basis u (ExtVariable v) = leaf_term (ext_entry_leaf v.entry v.index)
 ext_term basis u (ExtConstant c) = ext_const_term (basis.coefficients c)
 
--- a constant is a Base leaf of a constant, or an extension constant that is an element of the base field
+-- the constant that a leaf equals: of a Base leaf its base tree's, of an extension constant its base part
 abbrev pub ext_leaf_constant : {F EF : Type 0} → Basis F EF → BaseNodes F → ExtLeaf F EF → Option F
 ext_leaf_constant basis u (Base i) = constant_at base_reads u i
 ext_leaf_constant basis u (ExtVariable v) = None

@@ -9,7 +9,7 @@ use Rattle.air_symbolic.specs.BaseLeaves.{base_reads}
 use Rattle.air_symbolic.specs.ExtLeaves.{BaseNodes, ext_grows, ext_reads}
 use Rattle.air_symbolic.specs.declared.leaves.ext_leaf.ExtLeaf.{ExtLeaf}
 
--- an extension pool, as contracts see it, over its base pool
+-- an extension pool over its base pool, as contracts see it
 abbrev pub ExtNodes : Type 0 → Type 0 → Type 0
 ExtNodes F EF = Pool (BaseNodes F) (ExtLeaf F EF)
 
@@ -18,11 +18,11 @@ module _ {F EF : Type 0} (basis : Basis F EF) where
   abbrev pub ExtGrown : ExtNodes F EF → ExtNodes F EF → Type 0
   ExtGrown p q = Grown ext_grows (ext_reads basis) p q
 
-  -- the extension pool has grown wherever its base pool alone has
+  -- if only the base pool grows, the extension pool has grown
   abbrev pub GrowsWithBase : ExtNodes F EF → Type 0
   GrowsWithBase p = (u : BaseNodes F) → ext_grows p.base u → ExtGrown p (on_base p u)
 
-  -- number i is of the base pool
+  -- number i is in the base pool
   pub record BaseHas (p : ExtNodes F EF) (i : ℕ) : Type 0 where
     pub pool : IsPool (ext_reads basis) p
     pub base : PoolHas base_reads p.base i

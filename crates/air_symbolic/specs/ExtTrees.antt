@@ -1,4 +1,4 @@
--- The trees of extension expressions, in which a Base leaf holds a whole base tree.
+-- The trees of extension expressions, where a Base leaf is replaced by its whole base tree.
 use Rattle.std.specs.Prelude.{◌≡◌, ℕ, ◌⊎◌, ⊤, Option, None, Some, option_map, option_and_then}
 use Rattle.air_field.specs.Extension.{Basis}
 use Rattle.air_symbolic.specs.Trees.{Tree, leaf_tree, add_tree, sub_tree, neg_tree, mul_tree, both, term_of}
@@ -11,7 +11,7 @@ use Rattle.air_symbolic.specs.declared.leaves.ext_leaf.ExtLeaf.{ExtLeaf}
 use Rattle.air_symbolic.specs.declared.leaves.ext_leaf.ExtLeaf.TheVariants.{Base, ExtVariable, ExtConstant}
 use Rattle.air_core.specs.declared.variables.variable_ext.SymbolicVariableExt.{SymbolicVariableExt}
 
--- A leaf with the tree of the base number in its place.
+-- A leaf with the base tree in place of the base number.
 pub data WholeLeaf (F EF : Type 0) : Type 0 where
   whole_base : Option (Tree (BaseLeaf F)) → WholeLeaf F EF
   whole_variable : SymbolicVariableExt F EF → WholeLeaf F EF
@@ -34,18 +34,18 @@ whole_tree u (mul_tree t v) = mul_tree (whole_tree u t) (whole_tree u v)
 abbrev pub whole_tree_at : {F EF : Type 0} → ExtNodes F EF → ℕ → Option (Tree (WholeLeaf F EF))
 whole_tree_at p i = option_map (whole_tree p.base) (tree_at p i)
 
--- number i has its whole tree in every pool that p has grown to
+-- number i keeps its whole tree in every pool that p grows to
 abbrev pub KeepsWholeTree : {F EF : Type 0} → Basis F EF → ExtNodes F EF → ℕ → Type 0
 KeepsWholeTree {F = F} {EF = EF} basis p i =
     (q : ExtNodes F EF) → ExtGrown basis p q → whole_tree_at q i ≡ whole_tree_at p i
 
--- the leaf is of the extension alone
+-- the leaf is extension-only
 abbrev pub IsExtOnly : {F EF : Type 0} → ExtLeaf F EF → Type 0
 IsExtOnly (Base i) = ⊥
 IsExtOnly (ExtVariable v) = ⊤
 IsExtOnly (ExtConstant c) = ⊤
 
--- such a leaf is one of the tree's
+-- the tree has an extension-only leaf
 abbrev pub SomeExtOnly : {F EF : Type 0} → Tree (ExtLeaf F EF) → Type 0
 SomeExtOnly (leaf_tree a) = IsExtOnly a
 SomeExtOnly (add_tree t v) = SomeExtOnly t ⊎ SomeExtOnly v
@@ -53,13 +53,13 @@ SomeExtOnly (sub_tree t v) = SomeExtOnly t ⊎ SomeExtOnly v
 SomeExtOnly (neg_tree t) = SomeExtOnly t
 SomeExtOnly (mul_tree t v) = SomeExtOnly t ⊎ SomeExtOnly v
 
--- the tree is there, and such a leaf occurs in it
+-- there is a tree, and it has an extension-only leaf
 abbrev pub HasExtOnly : {F EF : Type 0} → Option (Tree (ExtLeaf F EF)) → Type 0
 HasExtOnly (Some t) = SomeExtOnly t
 HasExtOnly None = ⊥
 
--- The base tree with the same nodes, the base trees of the leaves unfolded; there is none where an extension-only leaf
--- occurs.
+-- The base tree with the same nodes, where Base leaves are replaced by their base trees; None if there is an
+-- extension-only leaf.
 abbrev pub lowered_leaf : {F EF : Type 0} → BaseNodes F → ExtLeaf F EF → Option (Tree (BaseLeaf F))
 lowered_leaf u (Base i) = tree_at u i
 lowered_leaf u (ExtVariable v) = None
@@ -75,7 +75,7 @@ lower_tree u (mul_tree t v) = both mul_tree (lower_tree u t) (lower_tree u v)
 abbrev pub lower : {F EF : Type 0} → BaseNodes F → Option (Tree (ExtLeaf F EF)) → Option (Tree (BaseLeaf F))
 lower u t = option_and_then (lower_tree u) t
 
--- number b of the base pool u is the lowered tree t, in which no extension-only leaf occurs
+-- number b of the base pool u is the tree t lowered over old, and t has no extension-only leaf
 pub record IsLowered {F EF : Type 0} (old u : BaseNodes F) (t : Option (Tree (ExtLeaf F EF))) (b : ℕ) : Type 0 where
   pub base_only : HasExtOnly t → ⊥
   pub tree : HasTree u (lower old t) b

@@ -4,21 +4,21 @@ use Rattle.air_field.specs.Ring.{CommRing}
 use Rattle.air_field.specs.Term.{Term, const_term}
 use Rattle.air_field.specs.Same.{Same}
 
--- `sound` says that what lies under the leaves is well formed itself, `valid` that what a leaf names is there.
+-- `sound` says that the base is well formed, `valid` that a leaf names only what the base has.
 pub record Leaves (A F : Type 0) : Type 1 where
   pub sound : Type 0
   pub valid : A → Type 0
   pub constant : A → Option F
   pub term : A → Term F
 
--- what l says of a valid leaf, m says too
+-- m agrees with l on every leaf that is valid for l
 pub record Keeps {A F : Type 0} (l m : Leaves A F) : Type 0 where
   pub sound : l.sound → m.sound
   pub valid : (a : A) → l.valid a → m.valid a
   pub constant : (a : A) → l.valid a → m.constant a ≡ l.constant a
   pub term : (a : A) → l.valid a → m.term a ≡ l.term a
 
--- What a kind of leaf keeps while what lies under it grows.
+-- The laws of a kind of leaf as its base grows.
 pub record LeafLaws {U A F : Type 0} (r : CommRing F) (reads : U → Leaves A F) (grows : U → U → Type 0) (empty : U) : Type 0 where
   pub constant_is : (u : U) (a : A) (c : F) → (reads u).valid a → (reads u).constant a ≡ Some c → Same r (const_term c) ((reads u).term a)
   pub empty_sound : (reads empty).sound
@@ -26,7 +26,7 @@ pub record LeafLaws {U A F : Type 0} (r : CommRing F) (reads : U → Leaves A F)
   pub joined : (u v w : U) → grows u v → grows v w → grows u w
   pub keeps : (u v : U) → grows u v → Keeps (reads u) (reads v)
 
--- the leaf is the constant c, written as a base constant
+-- the leaf is valid and equals the constant c, as a base constant
 pub record IsConstLeaf {A F : Type 0} (l : Leaves A F) (c : F) (a : A) : Type 0 where
   pub valid : l.valid a
   pub constant : l.constant a ≡ Some c

@@ -1,4 +1,4 @@
--- Base numbers in place of the numbers of an extension pool.
+-- Base numbers for the numbers of an extension pool.
 use Rattle.std.specs.Prelude.{◌≡◌, ℕ, ◌<◌, List, slice_get, slice_index_or, Option, None, Some}
 use Rattle.air_symbolic.specs.Trees.{Tree, leaf_tree, add_tree, sub_tree, neg_tree, mul_tree}
 use Rattle.air_symbolic.specs.Nodes.{unfold_node, tree_of, NodeFits}
@@ -11,7 +11,7 @@ use Rattle.air_symbolic.specs.declared.pools.expr.SymbolicExpr.{SymbolicExpr}
 use Rattle.air_symbolic.specs.declared.leaves.base_leaf.BaseLeaf.{BaseLeaf}
 use Rattle.air_symbolic.specs.declared.leaves.ext_leaf.ExtLeaf.{ExtLeaf}
 
--- the tree is a leaf of the extension alone
+-- the tree is an extension-only leaf
 abbrev pub IsExtOnlyLeaf : {F EF : Type 0} → Option (Tree (ExtLeaf F EF)) → Type 0
 IsExtOnlyLeaf (Some (leaf_tree a)) = IsExtOnly a
 IsExtOnlyLeaf (Some (add_tree t u)) = ⊥
@@ -20,24 +20,24 @@ IsExtOnlyLeaf (Some (neg_tree t)) = ⊥
 IsExtOnlyLeaf (Some (mul_tree t u)) = ⊥
 IsExtOnlyLeaf None = ⊥
 
--- a number is there, and its tree is such a leaf
+-- there is a marked number, and its tree is an extension-only leaf
 abbrev pub IsMarkedExtOnly : {F EF : Type 0} → ExtNodes F EF → Option ℕ → Type 0
 IsMarkedExtOnly p None = ⊥
 IsMarkedExtOnly p (Some i) = IsExtOnlyLeaf (tree_at p i)
 
--- there is a base number, and in q it is number i of p lowered
+-- there is a base number, and in q it has the lowered tree of number i of p
 abbrev pub IsLoweredIn : {F EF : Type 0} → ExtNodes F EF → ExtNodes F EF → ℕ → Option ℕ → Type 0
 IsLoweredIn p q i o = (b : ℕ) × (o ≡ Some b) × HasTree q.base (lower p.base (tree_at p i)) b
 
--- the table has at number i the base number that is i lowered
+-- entry i of the table is a base number with the lowered tree of number i
 abbrev pub LoweredAt : {F EF : Type 0} → ExtNodes F EF → List (Option ℕ) → ℕ → Type 0
 LoweredAt p table i = IsLoweredIn p p i (slice_index_or table i None)
 
--- the node n fits the base pool of p, and there is number i of p lowered
+-- the node n fits the base pool of p, and has the lowered tree of number i of p
 abbrev pub IsLoweredNode : {F EF : Type 0} → ExtNodes F EF → ℕ → SymbolicExpr (BaseLeaf F) → Type 0
 IsLoweredNode p i n = NodeFits base_leaves p.base.nodes n × (unfold_node (tree_of p.base.nodes) n ≡ lower p.base (tree_at p i))
 
--- Number i can be lowered: no extension-only leaf occurs in its tree, and the table has its operands lowered.
+-- Number i can be lowered: its tree has no extension-only leaf, and the table has its operands lowered.
 pub record CanLower {F EF : Type 0} (p : ExtNodes F EF) (table : List (Option ℕ)) (i : ℕ) : Type 0 where
   pub here : i < size p
   pub base_only : HasExtOnly (tree_at p i) → ⊥

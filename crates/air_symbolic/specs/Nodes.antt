@@ -1,4 +1,4 @@
--- A pool's nodes, in the order of their numbers, and what each number stands for.
+-- A pool's nodes in the order of their numbers, and the tree of each number.
 use Rattle.std.specs.Prelude.{◌≡◌, ℕ, ◌<◌, ◌+◌, max, List, [], ◌∷◌, ◌++◌, length, take, Option, None, Some, option_map, ⊤, slice_get, slice_index_or}
 use Rattle.air_field.specs.Term.{Term, add_term, sub_term, neg_term, mul_term}
 use Rattle.air_field.specs.Degree.{degree_by, cached_weight}
@@ -7,7 +7,7 @@ use Rattle.air_symbolic.specs.Trees.{Tree, leaf_tree, add_tree, sub_tree, neg_tr
 use Rattle.air_symbolic.specs.declared.pools.expr.SymbolicExpr.{SymbolicExpr}
 use Rattle.air_symbolic.specs.declared.pools.expr.SymbolicExpr.TheVariants.{Leaf, Add, Sub, Neg, Mul}
 
--- the tree of a node, from those of its operands; without one of these it has none
+-- the tree of a node, from the trees of its operands; None if one of these is missing
 abbrev pub unfold_node : {A : Type 0} → (ℕ → Option (Tree A)) → SymbolicExpr A → Option (Tree A)
 unfold_node at (Leaf a) = Some (leaf_tree a)
 unfold_node at (Add x y d) = both add_tree (at x) (at y)
@@ -15,7 +15,7 @@ unfold_node at (Sub x y d) = both sub_tree (at x) (at y)
 unfold_node at (Neg x d) = option_map neg_tree (at x)
 unfold_node at (Mul x y d) = both mul_tree (at x) (at y)
 
--- the term of a node, from those of its leaf and of its operands
+-- the term of a node, from the terms of its leaf and of its operands
 abbrev pub node_term : {A F : Type 0} → (A → Term F) → (ℕ → Term F) → SymbolicExpr A → Term F
 node_term leaf at (Leaf a) = leaf a
 node_term leaf at (Add x y d) = add_term (at x) (at y)
@@ -23,12 +23,13 @@ node_term leaf at (Sub x y d) = sub_term (at x) (at y)
 node_term leaf at (Neg x d) = neg_term (at x)
 node_term leaf at (Mul x y d) = mul_term (at x) (at y)
 
--- What a step makes of each node in turn, from what was made of those before it; `none` stands for numbers that aren't.
+-- The results of a step for each node in order, computed from the results of earlier nodes; `none` is used for numbers
+-- without one.
 abbrev pub in_turn : {A T : Type 0} → T → ((ℕ → T) → SymbolicExpr A → T) → List T → List (SymbolicExpr A) → List T
 in_turn none step before [] = before
 in_turn none step before (n ∷ ns) = in_turn none step (before ++ step (λ i. slice_index_or before i none) n ∷ []) ns
 
--- the tree of number i, if a node has the number: its node and theirs unfolded
+-- the tree of number i, if there is a node with this number: the node with its operands unfolded
 abbrev pub tree_of : {A : Type 0} → List (SymbolicExpr A) → ℕ → Option (Tree A)
 tree_of ns i = slice_index_or (in_turn None unfold_node [] ns) i None
 
@@ -44,7 +45,7 @@ stated_degree l (Sub x y d) = d
 stated_degree l (Neg x d) = d
 stated_degree l (Mul x y d) = d
 
--- a node that may follow ns: its operands are among them, and its degree is right
+-- the node may follow ns: its operands are among them, and its degree is right
 abbrev pub NodeFits : {A F : Type 0} → Leaves A F → List (SymbolicExpr A) → SymbolicExpr A → Type 0
 NodeFits l ns (Leaf a) = l.valid a
 NodeFits l ns (Add x y d) = (x < length ns) × (y < length ns) × (d ≡ max (cached_degree l ns x) (cached_degree l ns y))
@@ -52,12 +53,12 @@ NodeFits l ns (Sub x y d) = (x < length ns) × (y < length ns) × (d ≡ max (ca
 NodeFits l ns (Neg x d) = (x < length ns) × (d ≡ cached_degree l ns x)
 NodeFits l ns (Mul x y d) = (x < length ns) × (y < length ns) × (d ≡ cached_degree l ns x + cached_degree l ns y)
 
--- each node fits those before it, and none is there twice
+-- each node fits the nodes before it, and no node occurs twice
 pub record WellFormed {A F : Type 0} (l : Leaves A F) (ns : List (SymbolicExpr A)) : Type 0 where
   pub fits : (i : ℕ) (n : SymbolicExpr A) → slice_get ns i ≡ Some n → NodeFits l (take i ns) n
   pub once : (i j : ℕ) (n : SymbolicExpr A) → slice_get ns i ≡ Some n → slice_get ns j ≡ Some n → i ≡ j
 
--- the operands of a node are below k
+-- all operands of a node are below k
 abbrev pub OperandsBelow : {A : Type 0} → ℕ → SymbolicExpr A → Type 0
 OperandsBelow k (Leaf a) = ⊤
 OperandsBelow k (Add x y d) = (x < k) × (y < k)
@@ -65,7 +66,7 @@ OperandsBelow k (Sub x y d) = (x < k) × (y < k)
 OperandsBelow k (Neg x d) = x < k
 OperandsBelow k (Mul x y d) = (x < k) × (y < k)
 
--- n is the node of number i
+-- n is the node with number i
 pub record IsNode {A F : Type 0} (l : Leaves A F) (ns : List (SymbolicExpr A)) (i : ℕ) (n : SymbolicExpr A) : Type 0 where
   pub node : slice_get ns i ≡ Some n
   pub tree : tree_of ns i ≡ unfold_node (tree_of ns) n

@@ -1,16 +1,16 @@
--- What a pool may refuse.
+-- The errors of a pool.
 use Rattle.std.specs.Prelude.{Result, Ok, Err, ◌≡◌, ℕ, ◌≤◌, ◌^◌, ⊤}
 use Rattle.air_field.specs.Term.{Term}
 use Rattle.air_field.specs.Degree.{degree_by, cached_weight}
 use Rattle.air_field.specs.declared.errors.RingError.{RingError}
 use Rattle.air_field.specs.declared.errors.RingError.TheVariants.{Memory, DegreeOverflow}
 
--- Memory is refused anywhere, a degree only where it passes `usize`.
+-- `Memory` is always allowed, `DegreeOverflow` only for a degree above `usize`.
 abbrev pub PoolRefuses : {F : Type 0} → RingError → Term F → Type 0
 PoolRefuses Memory t = ⊤
 PoolRefuses DegreeOverflow t = 2 ^ 64 ≤ degree_by cached_weight t
 
--- the answer is the degree d, or want of memory, or a refusal where d passes `usize`
+-- the answer is the degree d, or `Memory`, or `DegreeOverflow` for a d above `usize`
 abbrev pub AnswersDegree : ℕ → Result ℕ RingError → Type 0
 AnswersDegree d (Ok n) = n ≡ d
 AnswersDegree d (Err Memory) = ⊤

@@ -1,4 +1,4 @@
--- The numbers of a pool that roots reach.
+-- The numbers of a pool that some roots reach.
 use Rattle.std.specs.Prelude.{◌≡◌, ◌⊎◌, ℕ, List, length, slice_index_or, All, Contains, Option, None, Some, ⊤}
 use Rattle.air_symbolic.specs.Leaves.{Leaves}
 use Rattle.air_symbolic.specs.Nodes.{IsNode}
@@ -26,17 +26,17 @@ pub data ReachedFrom {A F : Type 0} (l : Leaves A F) (ns : List (SymbolicExpr A)
   root : {i : ℕ} → Contains roots i → ReachedFrom l ns roots i
   operand : {i j : ℕ} {n : SymbolicExpr A} → ReachedFrom l ns roots j → IsNode l ns j n → IsOperand i n → ReachedFrom l ns roots i
 
--- number i is marked: its place holds it
+-- number i is marked: entry i of the marks is i
 abbrev pub Marked : List (Option ℕ) → ℕ → Type 0
 Marked marks i = slice_index_or marks i None ≡ Some i
 
--- Further numbers were marked, which have the property.
+-- Earlier marks stay, and more numbers may be marked, but only ones with the property P.
 pub record MarkedMore (P : ℕ → Type 0) (old new : List (Option ℕ)) : Type 0 where
   pub places : length new ≡ length old
   pub stays : (i : ℕ) → Marked old i → Marked new i
   pub only : (i j : ℕ) → slice_index_or new i None ≡ Some j → (slice_index_or old i None ≡ Some j) ⊎ ((j ≡ i) × P i)
 
--- Of ns nodes the numbers that the roots reach are marked, and no others.
+-- Of the nodes ns exactly the numbers that the roots reach are marked.
 pub record Reached {A F : Type 0} (l : Leaves A F) (ns : List (SymbolicExpr A)) (roots : List ℕ) (marks : List (Option ℕ)) : Type 0 where
   pub places : length marks ≡ length ns
   pub roots_marked : All (λ i. Marked marks i) roots

@@ -1,4 +1,4 @@
--- Which tree a simplified operation answers: the first case that fits.
+-- The tree that a simplified operation answers: the first simplification that fits.
 use Rattle.std.specs.Prelude.{◌≡◌, ℕ, ◌<◌, Bool, Option, None, Some, if◌then◌else◌, option_map}
 use Rattle.air_field.specs.Ring.{CommRing, minus}
 use Rattle.air_symbolic.specs.Leaves.{Leaves}
@@ -7,8 +7,8 @@ use Rattle.air_symbolic.specs.Pools.{tree_at, constant_at, IsConst, Pool, size}
 use Rattle.air_symbolic.specs.declared.pools.simplify.Simplified.{Simplified}
 use Rattle.air_symbolic.specs.declared.pools.simplify.Simplified.TheVariants.{Constant, Left, Right, Negated}
 
--- By the operands' constants, where they have one; None where a node is needed.
--- Of an operation that gives its left operand where the right one is zero; `from_zero` stands where the left one is.
+-- What the operands' constants, if any, simplify an operation to; None if a node is needed. The operation gives its
+-- left operand if the right one is zero, and `from_zero` if the left one is.
 abbrev pub simplified_by_zero : {F : Type 0} → CommRing F → (F → F → Bool) → (F → F → F) → Simplified F → Option F → Option F → Option (Simplified F)
 simplified_by_zero r eq op from_zero (Some a) (Some b) = Some (Constant (op a b))
 simplified_by_zero r eq op from_zero (Some a) None = if eq a r.zero then Some from_zero else None
@@ -33,24 +33,24 @@ abbrev pub simplified_negative : {F : Type 0} → CommRing F → Option F → Op
 simplified_negative r (Some a) = Some (Constant (r.neg a))
 simplified_negative r None = None
 
--- v is what this says of the operands t and u: a constant, one of them, or the right one's negative
+-- v is what the simplification says of the operands t and u: a constant, one of them, or the negated right one
 abbrev pub IsSimplifiedTo : {A F : Type 0} → Leaves A F → Option (Tree A) → Option (Tree A) → Simplified F → Option (Tree A) → Type 0
 IsSimplifiedTo l t u (Constant c) v = IsConst l c v
 IsSimplifiedTo l t u Left v = v ≡ t
 IsSimplifiedTo l t u Right v = v ≡ u
 IsSimplifiedTo l t u Negated v = v ≡ option_map neg_tree u
 
--- and where nothing is simplified it is the node
+-- v is what the simplification says, or the node `plain` if there is none
 abbrev pub IsSimplified : {A F : Type 0} → Leaves A F → Option (Tree A) → Option (Tree A) → Option (Tree A) → Option (Simplified F) → Option (Tree A) → Type 0
 IsSimplified l t u plain (Some simplified) v = IsSimplifiedTo l t u simplified v
 IsSimplified l t u plain None v = v ≡ plain
 
--- number i of the pool q is what this says of the operands t and u
+-- number i of the pool q is what the simplification says of the operands t and u
 pub record HasSimplified {U A F : Type 0} (reads : U → Leaves A F) (q : Pool U A) (t u : Option (Tree A)) (simplified : Simplified F) (i : ℕ) : Type 0 where
   pub here : i < size q
   pub tree : IsSimplifiedTo (reads q.base) t u simplified (tree_at q i)
 
--- number i of the pool q is an operation of x and y, which were of the pool p: what it simplifies to, or else its node
+-- number i of the pool q is an operation on numbers x and y of the pool p: what it simplifies to, or else its node
 pub record IsOperation {U A F : Type 0} (reads : U → Leaves A F) (p q : Pool U A)
     (node : Option (Tree A) → Option (Tree A) → Option (Tree A)) (simplify : Option F → Option F → Option (Simplified F)) (x y i : ℕ) : Type 0 where
   pub here : i < size q
@@ -66,7 +66,7 @@ module _ {U A F : Type 0} (reads : U → Leaves A F) (r : CommRing F) (eq : F �
   abbrev pub IsProduct : ℕ → ℕ → ℕ → Type 0
   IsProduct x y = IsOperation reads p q (both mul_tree) (simplified_product r eq) x y
 
-  -- an operation of x alone
+  -- an operation on x only
   abbrev pub IsNegative : ℕ → ℕ → Type 0
   IsNegative x = IsOperation reads p q (λ t _. option_map neg_tree t) (λ o _. simplified_negative r o) x x
 

@@ -1,4 +1,4 @@
--- Which tree the simplified sum or product of a list answers: its elements are taken from the left, and each step is simplified.
+-- The tree of the simplified sum or product of a list: elements are joined from the left, and each step is simplified.
 use Rattle.std.specs.Prelude.{◌≡◌, ℕ, ◌+◌, ◌<◌, ◌≤◌, ◌^◌, ◌⊎◌, Bool, List, [], ◌∷◌, map, Option, None}
 use Rattle.air_field.specs.Ring.{CommRing}
 use Rattle.air_field.specs.Degree.{degree_by, cached_weight}
@@ -12,7 +12,7 @@ abbrev pub JoinedFrom : {A : Type 0} → (Option (Tree A) → Option (Tree A) �
 JoinedFrom step t [] v = v ≡ t
 JoinedFrom {A = A} step t (u ∷ us) v = (w : Option (Tree A)) × step t u w × JoinedFrom step w us v
 
--- v is the join of the trees, of none the constant
+-- v is the join of the trees, or the constant for the empty list
 abbrev pub IsJoined : {A F : Type 0} → Leaves A F → F → (Option (Tree A) → Option (Tree A) → Option (Tree A) → Type 0) → List (Option (Tree A)) → Option (Tree A) → Type 0
 IsJoined l none step [] v = IsConst l none v
 IsJoined l none step (t ∷ ts) v = JoinedFrom step t ts v
@@ -22,18 +22,18 @@ module _ {A F : Type 0} (r : CommRing F) (eq : F → F → Bool) (l : Leaves A F
   abbrev pub SumStep : Option (Tree A) → Option (Tree A) → Option (Tree A) → Type 0
   SumStep t u v = IsSimplified l t u (both add_tree t u) (simplified_sum r eq (tree_constant l.constant t) (tree_constant l.constant u)) v
 
-  -- the product of t and u needs a node, and the degrees add past `usize`
+  -- the product of t and u needs a node, and the sum of the degrees exceeds `usize`
   abbrev pub Overflows : Option (Tree A) → Option (Tree A) → Type 0
   Overflows t u =
       (simplified_product r eq (tree_constant l.constant t) (tree_constant l.constant u) ≡ None)
       × (2 ^ 64 ≤ degree_by cached_weight (term_of l.term t) + degree_by cached_weight (term_of l.term u))
 
-  -- v is the simplified product of t and u, which is not refused
+  -- v is the simplified product of t and u, which doesn't overflow
   abbrev pub ProductStep : Option (Tree A) → Option (Tree A) → Option (Tree A) → Type 0
   ProductStep t u v =
       (Overflows t u → ⊥) × IsSimplified l t u (both mul_tree t u) (simplified_product r eq (tree_constant l.constant t) (tree_constant l.constant u)) v
 
-  -- from t on, the product with one of the trees is refused
+  -- multiplying t by the trees one by one overflows at some step
   abbrev pub OverflowsFrom : Option (Tree A) → List (Option (Tree A)) → Type 0
   OverflowsFrom t [] = ⊥
   OverflowsFrom t (u ∷ us) = Overflows t u ⊎ ((w : Option (Tree A)) × ProductStep t u w × OverflowsFrom w us)
@@ -42,7 +42,7 @@ module _ {A F : Type 0} (r : CommRing F) (eq : F → F → Bool) (l : Leaves A F
   ProductOverflows [] = ⊥
   ProductOverflows (t ∷ ts) = OverflowsFrom t ts
 
--- Number z of the pool q is the simplified join of the elements xs, which were of the pool p.
+-- Number z of the pool q is the simplified join of the elements xs, which are numbers of the pool p.
 module _ {U A F : Type 0} (reads : U → Leaves A F) (r : CommRing F) (eq : F → F → Bool) (p q : Pool U A) where
   pub record IsSumOfAll (xs : List ℕ) (z : ℕ) : Type 0 where
     pub here : z < size q

@@ -1,4 +1,4 @@
-//! What callers rely on, as the contracts of functions.
+//! Facts that callers rely on, as contracts of functions.
 ghost use Rattle.std.specs.Prelude.{◌≡◌, ℕ, ◌<◌, ◌≤◌, ◌↔◌, List, IsTrue, slice_index_or};
 ghost use Rattle.std.specs.Ordering.{nat_cmp};
 ghost use Rattle.air_field.specs.Ring.{AlgebraOver, AlgebraOverLaws};
@@ -18,7 +18,7 @@ use crate::pools::pool::ExprPool;
 use air_field::{ExtensionField, Field};
 use std::cmp::Ordering;
 
-/// Two numbers of a pool are equal exactly where their trees are: a tree has one number.
+/// Two numbers of a pool are equal exactly if their trees are: a tree has only one number.
 pub fn is_same_tree<A: SymLeaf>(pool: &ExprPool<A>, x: ExprId<A>, y: ExprId<A>) -> bool
     requires owed { FitsBase A.reads pool.now }
     requires x_in { x < size pool.now }
@@ -30,7 +30,7 @@ pub fn is_same_tree<A: SymLeaf>(pool: &ExprPool<A>, x: ExprId<A>, y: ExprId<A>) 
     x == y
 }
 
-/// Two numbers of an extension pool are equal exactly where their trees are, each Base leaf being its whole base tree.
+/// Two numbers of an extension pool are equal exactly if their trees are, where a Base leaf is its whole base tree.
 pub fn is_same_whole_tree<F: Field, EF: ExtensionField<F>>(
     pool: &ExprPool<ExtLeaf<F, EF>>,
     x: ExprId<ExtLeaf<F, EF>>,
@@ -46,20 +46,20 @@ pub fn is_same_whole_tree<F: Field, EF: ExtensionField<F>>(
     is_same_tree(pool, x, y)
 }
 
-/// An expression has the polynomial of each term that it means, under every assignment over every algebra `E`.
+/// An expression has the same polynomial as each term that it means, under every assignment over every algebra `E`.
 pub fn polynomial_is_kept<E, A: SymLeaf>(_pool: &ExprPool<A>, _x: ExprId<A>)
     ensures { (a : AlgebraOver A.F E) → AlgebraOverLaws A.F.ring a → (t : Term A.F)
         → PoolMeans A.reads A.F.ring _pool.now _x t → (s : Leaf → List E) → SamePolynomial
         (polynomial a s (term_at A.reads _pool.now _x)) (polynomial a s t) }
 {}
 
-/// Its degree is at most theirs, by every weighting of the leaves.
+/// The degree of an expression is at most that of each term that it means, under all weights of the leaves.
 pub fn degree_is_kept<A: SymLeaf>(_pool: &ExprPool<A>, _x: ExprId<A>)
     ensures { (t : Term A.F) → PoolMeans A.reads A.F.ring _pool.now _x t → (w : Leaf → ℕ)
         → degree_by w (term_at A.reads _pool.now _x) ≤ degree_by w t }
 {}
 
-/// Where each leaf's polynomial is within the leaf's weight, that of an expression is within its degree.
+/// If each leaf's polynomial is within the leaf's weight, an expression's polynomial is within its degree.
 pub fn polynomial_is_within_degree<E, A: SymLeaf>(_pool: &ExprPool<A>, _x: ExprId<A>)
     ensures { (a : AlgebraOver A.F E) (s : Leaf → List E) (w : Leaf → ℕ)
         → ((l : Leaf) → HasDegreeAtMost a.ring (λ n. slice_index_or (s l) n a.ring.zero) (w l))
@@ -67,12 +67,12 @@ pub fn polynomial_is_within_degree<E, A: SymLeaf>(_pool: &ExprPool<A>, _x: ExprI
         (degree_by w (term_at A.reads _pool.now _x)) }
 {}
 
-/// `==` of leaves is true exactly for the same leaf, and `cmp` a total order that answers Equal exactly there.
+/// `==` of leaves is true exactly for equal leaves, and `cmp` is a total order that answers `Equal` exactly for these.
 pub fn leaf_order<A: SymLeaf>()
     ensures { IsExactOrder A.eq A.cmp }
 {}
 
-/// How two expressions' numbers compare: as numbers, in a total order, and `==` is true exactly for the same number.
+/// Compares two expressions by their numbers: a total order, and `==` is true exactly for equal numbers.
 pub fn id_order<A: SymLeaf>(x: ExprId<A>, y: ExprId<A>) -> Ordering
     ensures compared { result ≡ nat_cmp x y }
     ensures by_number { (a b : ℕ) → ⟦<ExprId<A> as Ord>⟧.cmp a b ≡ nat_cmp a b }
@@ -81,12 +81,12 @@ pub fn id_order<A: SymLeaf>(x: ExprId<A>, y: ExprId<A>) -> Ordering
     x.cmp(&y)
 }
 
-/// Where the base pool of an extension pool was lent and has grown, the extension pool has grown.
+/// If the base pool of an extension pool was borrowed and has grown, the extension pool has grown.
 pub fn pool_grows_with_base<F: Field, EF: ExtensionField<F>>(_pool: &ExprPool<ExtLeaf<F, EF>>)
     ensures { GrowsWithBase EF.basis _pool.now }
 {}
 
-/// A number keeps its tree and its term while the pool grows.
+/// A number keeps its tree and its term as the pool grows.
 pub fn tree_is_kept<A: SymLeaf>(pool: &ExprPool<A>, _x: ExprId<A>)
     requires owed { FitsBase A.reads pool.now }
     requires here { _x < size pool.now }
@@ -95,7 +95,7 @@ pub fn tree_is_kept<A: SymLeaf>(pool: &ExprPool<A>, _x: ExprId<A>)
     pool.nodes_fit();
 }
 
-/// A number keeps its whole tree, the base trees of its Base leaves with it, while the pool grows.
+/// A number keeps its whole tree, including the base trees of its Base leaves, as the pool grows.
 pub fn whole_tree_is_kept<F: Field, EF: ExtensionField<F>>(
     pool: &ExprPool<ExtLeaf<F, EF>>,
     _x: ExprId<ExtLeaf<F, EF>>,

@@ -1,4 +1,6 @@
-//! Expressions of symbolic variables, in a pool in which each tree stands once.
+//! Expressions over symbolic variables, stored in pools without duplicates: a pool holds each tree only once.
+//!
+//! Calls fail only with `Memory` unless they say otherwise.
 #![tactic(auto)]
 
 pub mod laws;

@@ -1,4 +1,4 @@
-//! Pools of expressions, in which each tree stands once.
+//! Pools of expressions; a pool holds each tree only once.
 
 mod algebra;
 mod ascending_run;

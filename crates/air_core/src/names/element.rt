@@ -7,7 +7,7 @@ use std::alloc::AllocError;
 use std::fmt;
 use std::fmt::Display;
 
-/// The name `[i]` of an element of a batch.
+/// The name `[i]` of element i of a batch.
 #[derive(Clone, Copy, Drop)]
 pub struct Element(pub usize);
 

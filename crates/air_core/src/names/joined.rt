@@ -1,4 +1,4 @@
-//! Names under names.
+//! Names in a namespace.
 ghost use Rattle.std.specs.Prelude.{◌≡◌, ℕ, List, Option, Some};
 ghost use Rattle.std.specs.Fmt.{◌++?◌};
 ghost use Rattle.air_core.specs.Texts.{colons, JoinedSays};
@@ -24,7 +24,7 @@ impl<A, B> Joined<A, B> {
     }
 }
 
-/// What a `Joined` displays.
+/// An evaluated `Joined`.
 #[derive(Drop)]
 pub struct EvaluatedJoined<A, B> {
     left: A,

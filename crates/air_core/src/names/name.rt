@@ -1,22 +1,22 @@
-//! Names, and those that are texts or closures.
+//! Names, and implementations for texts and closures.
 ghost use Rattle.std.specs.Prelude.{◌≡◌, ℕ, List, Option, Some, Ok, IfOk, ⊤};
 
 use std::alloc::AllocError;
 use std::fmt::Display;
 
-/// The name of a constraint, which is evaluated at most once.
+/// The name of a constraint. It is evaluated at most once.
 pub trait Name: Drop {
-    /// What the evaluated name is, which is displayed.
+    /// The evaluated name, which can be displayed.
     type Output: Display + Drop;
 
     /// The name may be evaluated.
     ghost can_evaluate: { Self → Type 0 };
 
-    /// A text that the evaluated name may display. `None` is a text of which nothing is said.
+    /// A text that the evaluated name may display. `None` is a text that nothing is known of.
     ghost displays: { Self → Option (List ℕ) → Type 0 };
 
-    /// Evaluates the name, which must be one that may be evaluated: of a closure, what the closure requires must hold.
-    /// It refuses for want of memory alone.
+    /// Evaluates the name, which `can_evaluate` must allow: what a closure requires must hold. Fails only when out of
+    /// memory.
     fn evaluate(self) -> Result<Self::Output, AllocError>
         requires { can_evaluate self }
         ensures { IfOk result (λ shown. displays self (Self.Output.output shown)) };
@@ -34,7 +34,7 @@ impl Name for &'static str {
     }
 }
 
-/// A name that a closure makes where it is needed.
+/// A name that a closure makes when it is needed.
 #[derive(Drop)]
 pub struct Lazy<F>(pub F);
 

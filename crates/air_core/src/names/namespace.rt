@@ -1,17 +1,17 @@
-//! Names that other names are put under.
+//! Namespaces: names that other names can be put under.
 ghost use Rattle.std.specs.Prelude.{◌≡◌};
 
 use crate::names::joined::Joined;
 use crate::names::name::Name;
 
-/// A name that other names are put under.
+/// A name that other names can be put under.
 pub trait Namespace: Name + Copy {}
 
 impl Namespace for &'static str {}
 
 impl<A: Namespace, B: Namespace> Namespace for Joined<A, B> {}
 
-/// The calls that put a name under a namespace.
+/// Puts a name under a namespace.
 pub trait NamespaceExt: Namespace {
     /// The namespace `self::inner`.
     fn join<N: Namespace>(self, inner: N) -> Joined<Self, N>

@@ -1,6 +1,6 @@
 //! The entries that a base variable can name.
 
-/// Where a base variable stands. An offset counts rows from the current one; a window has the offsets 0 and 1.
+/// The entry of a base variable. An offset counts rows from the current one; a window has the offsets 0 and 1.
 #[derive(Clone, Copy, Debug, PartialEq, Eq, PartialOrd, Ord, Hash)]
 pub enum BaseEntry {
     /// A column of the preprocessed trace.

@@ -1,12 +1,12 @@
 //! The entries that an extension variable can name.
 
-/// Where an extension variable stands. An offset counts rows from the current one; a window has the offsets 0 and 1.
+/// The entry of an extension variable. An offset counts rows from the current one; a window has the offsets 0 and 1.
 #[derive(Clone, Copy, Debug, PartialEq, Eq, PartialOrd, Ord, Hash)]
 pub enum ExtEntry {
     /// A column of the permutation trace.
     Permutation { offset: usize },
     /// A random challenge.
     Challenge,
-    /// A value that the permutation argument ends with.
+    /// A value that the permutation argument exposes.
     PermutationValue,
 }

@@ -12,7 +12,7 @@ use crate::variables::entry::BaseEntry;
 use std::cmp::Ordering;
 use std::marker::PhantomData;
 
-/// A base variable: an entry, and the place in it.
+/// A base variable: an entry, and an index into it.
 #[derive(Clone, Copy, Debug, PartialEq, Eq)]
 pub struct SymbolicVariable<F> {
     pub entry: BaseEntry,
@@ -20,8 +20,8 @@ pub struct SymbolicVariable<F> {
     of: PhantomData<F>,
 }
 
-/// By its place, and only then by its entry: authors mostly name a column on this row and on the next, and then go on to
-/// the columns after it, so that what they name mostly ascends.
+/// By index first, and by entry second. Authors mostly use a column on this row and on the next before they go on to
+/// later columns, so in this order the variables that they use mostly ascend.
 impl<F: Ord> Ord for SymbolicVariable<F> {
     ghost cmp = { then_cmp (on (λ v. v.index) nat_cmp) (on (λ v. v.entry) ⟦<BaseEntry as Ord>⟧.cmp) };
 
@@ -55,7 +55,7 @@ impl<F: PartialOrd> PartialOrd for SymbolicVariable<F> {
 }
 
 impl<F> SymbolicVariable<F> {
-    /// The variable at place `index` of `entry`.
+    /// The variable with index `index` of `entry`.
     pub fn new(entry: BaseEntry, index: usize) -> Self
         ensures entry { result.entry ≡ entry }
         ensures index { result.index ≡ index }
@@ -78,9 +78,9 @@ impl<F> SymbolicVariable<F> {
     }
 
     /// The degree of the variable's polynomial over `trace_len` rows; `periods` holds the lengths of the periodic
-    /// columns. A column that repeats with period p, a divisor of the rows N, has a polynomial in the (N/p)-th power of
-    /// the trace's variable, of degree at most N - N/p; for any other p up to N the answer is the same with N/p rounded
-    /// down. One without a period, or with one past N, counts as a column of the trace.
+    /// columns. A column that repeats with period p, a divisor of the number N of rows, is a polynomial in the (N/p)-th
+    /// power of the trace's variable, of degree at most N - N/p. For any other p up to N the answer is N - N/p with N/p
+    /// rounded down. A column of length 0, one that isn't listed, and one longer than N count as columns of the trace.
     pub fn poly_degree(&self, trace_len: usize, periods: &[usize]) -> usize
         ensures { result ≡ trace_weight trace_len periods.now
             (entry_leaf self.now.entry self.now.index) }

@@ -12,7 +12,7 @@ use crate::variables::ext_entry::ExtEntry;
 use std::cmp::Ordering;
 use std::marker::PhantomData;
 
-/// An extension variable: an entry, and the place in it.
+/// An extension variable: an entry, and an index into it.
 #[derive(Clone, Copy, Debug, PartialEq, Eq)]
 pub struct SymbolicVariableExt<F, EF> {
     pub entry: ExtEntry,
@@ -20,8 +20,8 @@ pub struct SymbolicVariableExt<F, EF> {
     of: PhantomData<(F, EF)>,
 }
 
-/// By its place, and only then by its entry: authors mostly name a column on this row and on the next, and then go on to
-/// the columns after it, so that what they name mostly ascends.
+/// By index first, and by entry second. Authors mostly use a column on this row and on the next before they go on to
+/// later columns, so in this order the variables that they use mostly ascend.
 impl<F: Ord, EF: Ord> Ord for SymbolicVariableExt<F, EF> {
     ghost cmp = { then_cmp (on (λ v. v.index) nat_cmp) (on (λ v. v.entry) ⟦<ExtEntry as Ord>⟧.cmp) };
 
@@ -55,7 +55,7 @@ impl<F: PartialOrd, EF: PartialOrd> PartialOrd for SymbolicVariableExt<F, EF> {
 }
 
 impl<F, EF> SymbolicVariableExt<F, EF> {
-    /// The variable at place `index` of `entry`.
+    /// The variable with index `index` of `entry`.
     pub fn new(entry: ExtEntry, index: usize) -> Self
         ensures entry { result.entry ≡ entry }
         ensures index { result.index ≡ index }

@@ -1,4 +1,4 @@
-//! Windows over two rows that are lent.
+//! Windows over two borrowed rows.
 ghost use Rattle.std.specs.Prelude.{◌≡◌, length, ⊤};
 
 use crate::errors::AirError;
@@ -6,7 +6,7 @@ use crate::windows::access::WindowAccess;
 use air_field::RowMajorMatrixView;
 use std::alloc::AllocError;
 
-/// Two rows that are lent.
+/// Two borrowed rows.
 #[derive(Debug)]
 pub struct RowWindow<'a, T> {
     current: &'a [T],
@@ -30,7 +30,7 @@ impl<'a, T: Copy> RowWindow<'a, T> {
     ghost use Rattle.std.specs.Prelude.{take, drop, ◌*◌, IfOk, OnOk, IfErr};
     ghost use Rattle.air_core.specs.WindowShapes.{IsNoWindow};
 
-    /// The window of a view of two rows. A view of another shape is refused with `WindowShape`. It takes no memory.
+    /// The window of a view of two rows. Fails with `WindowShape` for a view of any other shape. Allocates nothing.
     pub fn from_view(view: &RowMajorMatrixView<'a, T>) -> Result<Self, AirError>
         ensures shape { OnOk result (length view.now.values.now ≡ 2 * view.now.width) }
         ensures current { IfOk result (λ w. ⟦<RowWindow<'a, T> as WindowAccess<T>>⟧.current_row w
@@ -50,7 +50,7 @@ impl<'a, T: Copy> RowWindow<'a, T> {
         })
     }
 
-    /// The window of two rows, which must be of one width.
+    /// The window of two rows, which must have equal width.
     pub fn from_two_rows(current: &'a [T], next: &'a [T]) -> Self
         requires { length current.now ≡ length next.now }
         ensures current { ⟦<RowWindow<'a, T> as WindowAccess<T>>⟧.current_row result ≡ current.now }

@@ -3,7 +3,7 @@ ghost use Rattle.std.specs.Prelude.{◌≡◌, length, ⊤};
 
 use crate::windows::access::WindowAccess;
 
-/// Two rows of one width, zero too.
+/// Two rows of equal width, which may be zero.
 #[derive(Drop)]
 pub struct TwoRows<T> {
     current: Vec<T>,
@@ -14,7 +14,7 @@ pub struct TwoRows<T> {
 impl<T: Copy> TwoRows<T> {
     ghost use Rattle.air_core.specs.WindowShapes.{current_of, next_of};
 
-    /// The window of two rows, which must be of one width.
+    /// The window of two rows, which must have equal width.
     pub fn new(current: Vec<T>, next: Vec<T>) -> Self
         requires { length current.items ≡ length next.items }
         ensures current { current_of result ≡ current.items }

@@ -4,7 +4,7 @@ use Rattle.air_field.specs.Ring.{CommRing, AlgebraOver}
 use Rattle.air_field.specs.Term.{Term, const_term, ext_const_term, IsBase}
 use Rattle.air_field.specs.Algebra.{AlgebraLaws, closed_value_in, closed_value}
 
--- a ring without state, in which each element means a term
+-- a ring without state in which each element means some term
 stateless_laws : {R E F X : Type 0} (means : E → Term F → Type 0) → ((x : E) → (t : Term F) × means x t)
     → AlgebraLaws {R = R} {E = E} {F = F} {X = X} (λ _. ⊤) (λ _ _. ⊤) (λ _. means) (λ _ _. ⊤) (λ _ _. ⊥)
 stateless_laws means some = record {
@@ -19,7 +19,7 @@ stateless_laws means some = record {
   means_some = λ p x h. some x;
 }
 
--- whose elements are their values; each is an extension constant
+-- A ring of extension values: each element is the value of the terms it means, and means an extension constant.
 pub value_in_laws : {R F E X : Type 0} (a : AlgebraOver F E) (coefficients : E → List F)
     → ((x : E) → a.extend (coefficients x) ≡ x)
     → AlgebraLaws {R = R} {E = E} {F = F} {X = X} (λ _. ⊤) (λ _ _. ⊤) (λ _ x t. closed_value_in a t ≡ x) (λ _ _. ⊤)
@@ -27,6 +27,6 @@ pub value_in_laws : {R F E X : Type 0} (a : AlgebraOver F E) (coefficients : E �
 value_in_laws a coefficients named =
     stateless_laws (λ x t. closed_value_in a t ≡ x) (λ x. (ext_const_term (coefficients x), named x))
 
--- the same of base terms alone, whose elements are their values in the ring itself
+-- A ring of base values: its elements mean base terms only, with their values in the ring itself.
 pub value_laws : {R F X : Type 0} (r : CommRing F) → AlgebraLaws {R = R} {E = F} {X = X} (λ _. ⊤) (λ _ _. ⊤) (λ _ x t. IsBase t × (closed_value r t ≡ x)) (λ _ _. ⊤) (λ _ _. ⊥)
 value_laws r = stateless_laws (λ x t. IsBase t × (closed_value r t ≡ x)) (λ x. (const_term x, (tt, refl)))

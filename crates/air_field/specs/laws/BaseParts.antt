@@ -1,4 +1,4 @@
--- Base parts are as the lists of coefficients tell.
+-- Base parts, computed from coefficient lists.
 use Rattle.std.specs.Prelude.{◌≡◌, ℕ, zero, suc, ◌-◌, Bool, true, false, ◌&&◌, cond, List, [], ◌∷◌, length, replicate, Some, None, refl, ◌↔◌}
 use Rattle.std.proofs.Common.{◌∙◌, ap, ap₂, arith}
 use Rattle.air_field.specs.Ring.{CommRing}
@@ -18,11 +18,11 @@ module _ {F : Type 0} (r : CommRing F) (eq : F → F → Bool) (decides : (x y :
       go rest true e k = ap₂ (λ y ys. y ∷ ys) ((decides x r.zero).0 e) (rest k)
       go rest false e k = cc
 
-  -- the element that stands before zeros
+  -- the base part of an element followed by zeros
   pub part-of : (c : F) (n : ℕ) → base_part r eq (c ∷ replicate n r.zero) ≡ Some c
   part-of c n = ap (λ b. cond b (Some c) None) (all_zero-replicate n)
 
-  -- where there is one, zeros stand after it
+  -- a list with a base part is that element followed by zeros
   pub part-is : (xs : List F) (c : F) → base_part r eq xs ≡ Some c → xs ≡ c ∷ replicate (length xs - 1) r.zero
   part-is [] c h = cc
   part-is (x ∷ xs) c h = go (all_zero r eq xs) refl h

@@ -1,4 +1,4 @@
--- The extension keeps the laws of an extension, and `==` tells its elements apart.
+-- The extension has the laws of an extension, and `==` decides equality of its elements.
 use Rattle.std.specs.Prelude.{◌≡◌, ℕ, ◌-◌, ◌∷◌, replicate, refl, eqb, ◌↔◌, true}
 use Rattle.std.proofs.Common.{◌∙◌, ap, lit<}
 use Rattle.std.proofs.lemmas.Slice.Eq.{slice_eq-Decides}
@@ -35,7 +35,7 @@ binomial_laws m w =
 pub binomial_over_laws : {M : Type 0} (m : Ghosts M) (w : ℕ) → AlgebraOverLaws (residue_ring m) (binomial_over m w)
 binomial_over_laws m w = extension_over_laws (residue_ring m) (binomial_over m w) (binomial_basis m) 4 (binomial_laws m w)
 
--- `==` tells the same polynomial
+-- `==` decides equality of polynomials
 pub same_polynomial : {M : Type 0} {m : Ghosts M} (a b : BinomialExtension M m) → (pointwise (λ x y. eqb x.residue y.residue) a.value b.value ≡ true) ↔ (a ≡ b)
 same_polynomial {M = M} {m = m} a b =
     let told : (pointwise (λ (x y : Residue M m). eqb x.residue y.residue) a.value b.value ≡ true) ↔ (a.value ≡ b.value) = slice_eq-Decides (equal_is (residues m)) a.value b.value _ refl in

@@ -42,7 +42,7 @@ module _ {A : Type 0} (R : CommRing A) where
           sum_to-ext R (λ i. R.mul (coefficient R.zero p i) (coefficient R.zero q (n - i))) (λ i. R.mul (coefficient R.zero p i) (coefficient R.zero q (suc n - suc i))) n
           (λ i b. ap (λ k. R.mul (coefficient R.zero p i) (coefficient R.zero q k)) (less i))
 
-  -- each of the four coefficients takes w times the one that stands four places on
+  -- to each of the four coefficients is added w times the coefficient four further on
   pub coefficient-fold_four : (w a b c d : A) (p : List A) (n : ℕ)
       → coefficient R.zero (fold_four (ops R) w (a ∷ b ∷ c ∷ d ∷ p)) n ≡ R.add (coefficient R.zero (a ∷ b ∷ c ∷ d ∷ []) n) (R.mul w (coefficient R.zero p n))
   coefficient-fold_four w a b c d p n =

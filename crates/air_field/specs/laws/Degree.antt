@@ -25,7 +25,7 @@ module _ {E : Type 0} (r : CommRing E) where
       (λ (ge : i ≤ d). ap (λ x. r.mul (f i) x) (hg (k - i) (omega arith)) ∙ mul_zero r (f i))
       (cases_lt d i))
 
--- Where each leaf's polynomial is within its weight, a term's polynomial is within its degree.
+-- If each leaf's polynomial is within its weight, a term's polynomial is within its degree.
 pub polynomial-degree : {F E : Type 0} (a : AlgebraOver F E) (s : Leaf → List E) (w : Leaf → ℕ)
     → ((x : Leaf) → HasDegreeAtMost a.ring (λ n. slice_index_or (s x) n a.ring.zero) (w x)) → (t : Term F)
     → HasDegreeAtMost a.ring (polynomial a s t) (degree_by w t)
@@ -44,7 +44,7 @@ polynomial-degree a s w h (neg_term t) k b = cc (polynomial-degree a s w h t k b
 polynomial-degree a s w h (mul_term t u) k b =
     convolve-degree a.ring (polynomial a s t) (polynomial a s u) (degree_by w t) (degree_by w u) (polynomial-degree a s w h t) (polynomial-degree a s w h u) k b
 
--- Standing for a term is kept by each operation.
+-- Each operation preserves `Simplifies`.
 module _ {F : Type 0} (r : CommRing F) where
   pub Simplifies-refl : (t : Term F) → Simplifies r t t
   Simplifies-refl t = record { same = same_refl; degree_le = λ w. omega arith }

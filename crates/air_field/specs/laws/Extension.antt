@@ -1,4 +1,4 @@
--- What extensions keep: padded lists, and the ring with its coefficients.
+-- Consequences of the laws of extensions: padded lists, and the ring with its coefficients.
 use Rattle.std.specs.Prelude.{◌≡◌, ℕ, zero, suc, ◌-◌, ◌<◌, List, [], ◌∷◌, length, replicate, refl}
 use Rattle.std.proofs.Common.{sym, ◌∙◌, ap, ap₂, arith}
 use Rattle.air_field.specs.Ring.{CommRing, AllZero, AlgebraOver, AlgebraOverLaws}
@@ -14,7 +14,7 @@ length-padded d zero p = refl
 length-padded d (suc n) [] = ap suc (length-padded d n [])
 length-padded d (suc n) (x ∷ p) = ap suc (length-padded d n p)
 
--- a list of n coefficients stays
+-- padding to n leaves a list of n coefficients as it is
 pub padded-whole : {A : Type 0} (d : A) (n : ℕ) (p : List A) → length p ≡ n → pad_to d n p ≡ p
 padded-whole d zero [] h = refl
 padded-whole d zero (x ∷ p) h = absurd (omega arith)

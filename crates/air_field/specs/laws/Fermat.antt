@@ -7,7 +7,7 @@ use Rattle.std.proofs.Math.Nat.{pow-suc, pow-zero, zero-mod, dvd-mul_right, mod-
 use Rattle.air_field.specs.Prime.{IsPrime}
 use Rattle.air_field.specs.laws.Order.{SameModulo, same_add, same_if}
 
--- in how many ways k of n are chosen
+-- the number of ways to choose k of n
 abbrev choose : ℕ → ℕ → ℕ
 choose n zero = 1
 choose zero (suc k) = 0

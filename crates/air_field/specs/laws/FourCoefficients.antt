@@ -6,7 +6,7 @@ use Rattle.air_field.specs.RingOps.{RingOps, ops}
 use Rattle.air_field.specs.laws.RingSolver.{Expr, var, unit, nought, expr_ops, vars, ring_list}
 use Rattle.air_field.specs.Coefficients.{poly_add, poly_neg, poly_scale, binomial_mul, constant_four, dot}
 
--- a fact of every four coefficients holds of every list of length 4
+-- a property of every four coefficients holds for every list of length 4
 pub by_four : {A : Type 0} (P : List A → Type 0) → ((a b c d : A) → P (a ∷ b ∷ c ∷ d ∷ [])) → (l : List A) → length l ≡ 4 → P l
 by_four P f [] h = absurd (omega arith)
 by_four P f (a ∷ []) h = absurd (omega arith)
@@ -81,7 +81,7 @@ add_neg_at : {A : Type 0} (R : CommRing A) (a b c d : A)
 add_neg_at R a b c d =
     ring_list R (a ∷ b ∷ c ∷ d ∷ []) (sum (vars 0 4) (poly_neg expr_ops (vars 0 4))) (constant_four expr_ops nought) refl
 
--- ---- the same of lists of length 4
+-- ---- lists of length 4
 pub mul_length : {A : Type 0} (R : CommRing A) (w : A) (p q : List A) → length p ≡ 4 → length q ≡ 4 → length (binomial_mul (ops R) w p q) ≡ 4
 mul_length R w p q hp hq =
     by_four (λ l. length (binomial_mul (ops R) w l q) ≡ 4) (λ a b c d.
@@ -164,7 +164,7 @@ four_add_neg R p hp = by_four (λ y. poly_add (ops R) y (poly_neg (ops R) y) ≡
 
 -- ---- the product as the code writes it
 
--- four items, as they were read of a list
+-- four items, as they were read from a list
 from_reads : {A : Type 0} (p : List A) (a b c d : A) → length p ≡ 4 → a ≡ slice_index_or p 0 a → b ≡ slice_index_or p 1 b → c ≡ slice_index_or p 2 c → d ≡ slice_index_or p 3 d → a ∷ b ∷ c ∷ d ∷ [] ≡ p
 from_reads p a b c d h =
     by_four (λ l. a ≡ slice_index_or l 0 a → b ≡ slice_index_or l 1 b → c ≡ slice_index_or l 2 c → d ≡ slice_index_or l 3 d → a ∷ b ∷ c ∷ d ∷ [] ≡ l)

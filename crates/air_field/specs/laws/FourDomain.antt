@@ -1,4 +1,4 @@
--- The lists of four coefficients are a domain modulo X^4 - w, over a domain where -1 is a square and w is none.
+-- The lists of four coefficients are a domain modulo X^4 - w, over a domain where -1 is a square and w isn't.
 use Rattle.std.specs.Prelude.{◌≡◌, ◌⊎◌, refl, List, [], ◌∷◌, length}
 use Rattle.std.proofs.Common.{sym, ◌∙◌, ap, ap₂, inl, inr}
 use Rattle.air_field.specs.Ring.{CommRing, minus}
@@ -31,7 +31,7 @@ module _ {A : Type 0} (R : CommRing A) (w : A) where
   abbrev pub norm : A → A → A → A → A
   norm a b c d = norm_two (even a b c d) (odd a b c d)
 
-  -- what it is multiplied by to give its norm
+  -- the factor that gives its norm
   abbrev pub adjugate : A → A → A → A → List A
   adjugate a b c d =
       binomial_mul (ops R) w (a ∷ R.neg b ∷ c ∷ R.neg d ∷ []) (even a b c d ∷ R.zero ∷ R.neg (odd a b c d) ∷ R.zero ∷ [])
@@ -61,7 +61,7 @@ module _ {A : Type 0} (R : CommRing A) (w : A) where
       sym (four_mul_assoc R w (a ∷ b ∷ c ∷ d ∷ []) (a ∷ R.neg b ∷ c ∷ R.neg d ∷ []) second refl refl refl)
       ∙ (ap (λ l. binomial_mul (ops R) w l second) (first_product a b c d) ∙ second_product (even a b c d) (odd a b c d))
 
-  -- what gives zero with the polynomial gives zero with its norm
+  -- if its product with q is zero, so is q times its norm
   norm_times : (a b c d : A) (q : List A) → length q ≡ 4 → binomial_mul (ops R) w (a ∷ b ∷ c ∷ d ∷ []) q ≡ constant_four (ops R) R.zero
       → poly_scale (ops R) (norm a b c d) q ≡ poly_scale (ops R) R.zero (adjugate a b c d)
   norm_times a b c d q hq h =
@@ -74,7 +74,7 @@ module _ {A : Type 0} (R : CommRing A) (w : A) where
       ∙ (ap (λ l. binomial_mul (ops R) w l (adjugate a b c d)) h
       ∙ four_scale R w R.zero (adjugate a b c d) refl)))))
 
-  -- ---- the norm is zero only of zero
+  -- ---- the norm is zero only for zero
 
   pub same_of_minus : (x y : A) → minus R x y ≡ R.zero → x ≡ y
   same_of_minus x y h =
@@ -154,7 +154,7 @@ module _ {A : Type 0} (R : CommRing A) (w : A) where
     scaled_inverse : (n v : A) → R.mul n v ≡ R.one → poly_scale (ops R) n (constant_four (ops R) v) ≡ constant_four (ops R) R.one
     scaled_inverse n v e = λ i. e i ∷ mul_zero R n i ∷ mul_zero R n i ∷ mul_zero R n i ∷ []
 
-    -- a polynomial that isn't zero has an inverse, where the base's elements have
+    -- a nonzero polynomial has an inverse, where the base's nonzero elements have one
     module _ (inv : A → A) (inverse : (x : A) → (x ≡ R.zero → ⊥) → R.mul x (inv x) ≡ R.one) where
       abbrev four_inverse_at : A → A → A → A → List A
       four_inverse_at a b c d = binomial_mul (ops R) w (adjugate a b c d) (constant_four (ops R) (inv (norm a b c d)))

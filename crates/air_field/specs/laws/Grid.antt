@@ -1,4 +1,4 @@
--- The rows of a matrix of two are as long.
+-- The two rows of a matrix of two rows have equal length.
 use Rattle.std.specs.Prelude.{◌≡◌, length, drop}
 use Rattle.std.proofs.Common.{sym, ap, ◌∙◌}
 use Rattle.air_field.specs.Grid.{Grid, IsTwoRows, first_of, first_row_of, second_row_of}

@@ -1,4 +1,4 @@
--- Every element that isn't zero has an inverse: of a prime field, and of the polynomials modulo X^4 - w over it.
+-- Every nonzero element has an inverse: in a prime field, and among the polynomials modulo X^4 - w over it.
 use Rattle.std.specs.Prelude.{◌≡◌, ℕ, suc, ◌-◌, ◌≤◌}
 use Rattle.std.proofs.Common.{◌∙◌, ap, inl, inr, arith}
 use Rattle.air_field.specs.Binomial.{binomial_ring, constant_polynomial, of_list}

@@ -54,7 +54,7 @@ module _ {A : Type 0} {p : ℕ} (m : Modular A p) where
         | inr d ↦ inr (divides_value b d)
       ]
 
-  -- `==` tells the same value
+  -- `==` decides equality
   pub equal_is : (a b : A) → (eqb (m.value a) (m.value b) ≡ true) ↔ (a ≡ b)
   equal_is a b = ((λ h. m.same a b (eqb-true (m.value a) (m.value b) h)), (λ e. eq-eqb (m.value a) (m.value b) (ap m.value e)))
 
@@ -64,7 +64,7 @@ module _ {A : Type 0} {p : ℕ} (m : Modular A p) where
   pub last_is_negative : IsPrime p → m.class (p - 1) ≡ modular_neg m (m.class 1)
   last_is_negative prime = ap (λ n. m.class (p - n)) (sym (m.value_class 1 ∙ mod-eq_of_lt prime.least))
 
-  -- the number of a bit
+  -- the class of a bit
   pub bit : IsPrime p → (b : Bool) (a : A) → m.value a ≡ bool_byte b → a ≡ (if b then m.class 1 else m.class 0)
   bit prime false a h = same_small a 0 (let least : 2 ≤ p = prime.least in omega (arith, least)) h
   bit prime true a h = same_small a 1 prime.least h

@@ -16,6 +16,6 @@ class-add m n = modular.class-add baby_bears m n
 pub image-class : (n : ℕ) → image baby_bear_ring n ≡ class n
 image-class n = modular.image-class baby_bears n
 
--- `==` tells the same value
+-- `==` decides equality
 pub equal_is : (a b : BabyBear) → (eqb a.residue b.residue ≡ true) ↔ (a ≡ b)
 equal_is a b = modular.equal_is baby_bears a b

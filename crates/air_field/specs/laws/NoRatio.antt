@@ -1,4 +1,4 @@
--- An element whose power by half of what is below a prime is -1 is no square, nor the ratio of two squares.
+-- An element whose power by (p - 1) / 2 is -1, p being prime, is no square, nor the ratio of two squares.
 use Rattle.std.specs.Prelude.{◌≡◌, ℕ, zero, suc, ◌+◌}
 use Rattle.std.proofs.Common.{sym, ◌∙◌, ap, inl, inr}
 use Rattle.air_field.specs.Ring.{CommRing}

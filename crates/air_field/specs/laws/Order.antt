@@ -1,5 +1,6 @@
--- An odd number p is prime if some b has b ^ 2 ^ k + 1 as a multiple of p, where p is below 2 ^ (k + 1) squared: modulo a divisor
--- of p the first 2 ^ (k + 1) powers of b are then different numbers, so that each divisor is at least that great.
+-- An odd number p is prime if some b has b ^ 2 ^ k + 1 as a multiple of p, and p is below 2 ^ (k + 1) squared: modulo
+-- any divisor of p the first 2 ^ (k + 1) powers of b are then different numbers, so each divisor is at least that
+-- great.
 use Rattle.std.specs.Prelude.{◌≡◌, ℕ, zero, suc, refl, ◌+◌, ◌-◌, ◌*◌, ◌%◌, ◌/◌, ◌^◌, ◌<◌, ◌≤◌, ◌⊎◌, Bool, true, false, eqb, List, [], ◌∷◌, length, ◌||◌}
 use Rattle.std.specs.Int.{◌∣◌}
 use Rattle.std.specs.List.{IsDistinct, AllByRecursion, list_any}
@@ -13,7 +14,7 @@ use Rattle.air_field.specs.Prime.{IsPrime}
 use Rattle.air_field.specs.laws.Primality.{HasNoDivisor, euclid}
 use Rattle.air_field.specs.laws.Trial.{low_cofactor}
 
--- ---- numbers that are the same modulo d
+-- ---- numbers that are equal modulo d
 
 abbrev pub SameModulo : ℕ → ℕ → ℕ → Type 0
 SameModulo d x y = x % d ≡ y % d

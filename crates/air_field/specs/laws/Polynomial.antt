@@ -21,11 +21,11 @@ polynomial-zero a s (sub_term t u) = cc (polynomial-zero a s t, polynomial-zero 
 polynomial-zero a s (neg_term t) = cc (polynomial-zero a s t)
 polynomial-zero a s (mul_term t u) = cc (polynomial-zero a s t, polynomial-zero a s u)
 
--- Under lists of one, a polynomial's constant coefficient is the value.
+-- If each leaf's list has one element, a polynomial's constant coefficient is the value.
 pub polynomial-lists_of_one : {F E : Type 0} (a : AlgebraOver F E) (v : Leaf → E) (t : Term F) → polynomial a (λ l. v l ∷ []) t 0 ≡ value a v t
 polynomial-lists_of_one a v t = polynomial-zero a (λ l. v l ∷ []) t
 
--- What the laws make equal has one polynomial, in every algebra.
+-- Terms that the laws make equal have one polynomial, in every algebra.
 module _ {F E : Type 0} (r : CommRing F) (a : AlgebraOver F E) (m : AlgebraOverLaws r a) (s : Leaf → List E) where
   pub Same-poly : {t u : Term F} → Same r t u → (n : ℕ) → polynomial a s t n ≡ polynomial a s u n
   Same-poly same_refl n = refl

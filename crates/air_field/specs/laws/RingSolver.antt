@@ -1,7 +1,7 @@
--- Identities of commutative rings by computation: an expression is brought to two lists of products of
--- variables, the positive and the negative ones. Two expressions are equal in every commutative ring if the
--- positive products of the first with the negative ones of the second are, sorted, those of the second with
--- the negative ones of the first.
+-- Identities of commutative rings by computation: an expression is brought to two lists of products of variables, the
+-- positive and the negative ones. Two expressions are equal in every commutative ring if the positive products of the
+-- first with the negative ones of the second are, when sorted, the positive products of the second with the negative
+-- ones of the first.
 use Rattle.std.specs.Prelude.{◌≡◌, ℕ, zero, suc, ◌+◌, refl, List, [], ◌∷◌, ◌++◌, Bool, true, false, eqb, ltb, leb}
 use Rattle.std.proofs.Common.{sym, ◌∙◌, ap, ap₂}
 use Rattle.air_field.specs.Ring.{CommRing}
@@ -189,7 +189,7 @@ means R env (times a b) =
     ∙ sym upper)
 means R env (opp a) = opp_step R (meaning R env a) (sum_of R env (parts a).below) (sum_of R env (parts a).above) (means R env a)
 
--- ---- the test, and what it shows
+-- ---- the test, and what it proves
 abbrev pub left_form : Expr → Expr → List (List ℕ)
 left_form a b = canonical ((parts a).above ++ (parts b).below)
 
@@ -202,7 +202,7 @@ cancel_step R a b n m p q h k e =
     ∙ (ap (λ x. R.add x n) (sym k)
     ∙ (R.add_assoc b m n ∙ (ap (R.add b) (R.add_comm m n) ∙ sym (R.add_assoc b n m)))))))
 
--- two expressions with one form are equal in every commutative ring: `ring R (x ∷ y ∷ []) e1 e2 refl`
+-- two expressions with the same form are equal in every commutative ring: `ring R (x ∷ y ∷ []) e1 e2 refl`
 pub ring : {A : Type 0} (R : CommRing A) (env : List A) (a b : Expr) → left_form a b ≡ left_form b a → meaning R env a ≡ meaning R env b
 ring R env a b h =
     cancel_step R (meaning R env a) (meaning R env b) (sum_of R env (parts a).below) (sum_of R env (parts b).below)
@@ -221,7 +221,7 @@ abbrev pub values : {A : Type 0} → CommRing A → List A → List Expr → Lis
 values R env [] = []
 values R env (e ∷ es) = meaning R env e ∷ values R env es
 
--- the variables from n on, count of them
+-- `count` variables from n on
 abbrev pub vars : ℕ → ℕ → List Expr
 vars n zero = []
 vars n (suc count) = var n ∷ vars (n + 1) count

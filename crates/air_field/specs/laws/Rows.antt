@@ -1,4 +1,4 @@
--- The rows of a matrix, and of one that is made row by row.
+-- The rows of a matrix, and of one that is built row by row.
 use Rattle.std.proofs.Common.{[], ◌∷◌, ◌++◌, add-one, length-drop, Ok, ◌≡◌, ℕ, ◌+◌, ◌*◌, ◌/◌, ◌%◌, ◌<◌, ◌≤◌, zero, suc, List, Some, None, take, drop, length, slice_get, refl, sym, ap, ◌∙◌, arith}
 use Rattle.std.proofs.Math.Nat.{suc-mul, zero-mul}
 use Rattle.std.proofs.Math.Seq.{take-length}

@@ -1,4 +1,4 @@
--- What follows from the laws that make two terms the same.
+-- Consequences of the laws that make two terms equal.
 use Rattle.std.proofs.Common.{subst}
 use Rattle.air_field.specs.Ring.{CommRing, minus}
 use Rattle.air_field.specs.Term.{Term, const_term, add_term, sub_term, neg_term, mul_term}
@@ -15,7 +15,7 @@ module _ {F : Type 0} {r : CommRing F} where
   pub one_mul : {t : Term F} → Same r t (mul_term (const_term r.one) t)
   one_mul = same_trans mul_one comm_mul
 
-  -- only the negative of u adds up to zero with u
+  -- only the negative of u gives zero when added to u
   opposite_is : {u v : Term F} → Same r (add_term u v) (const_term r.zero) → Same r v (neg_term u)
   opposite_is {u = u} {v = v} h =
       same_trans (zero_add {t = v}) (same_trans (same_add (same_sym (add_opposite {t = u})) same_refl)
@@ -39,7 +39,7 @@ module _ {F : Type 0} {r : CommRing F} where
   pub sub_zero : {t : Term F} → Same r t (sub_term t (const_term r.zero))
   sub_zero = same_trans add_zero (same_trans (same_add same_refl (same_sym neg_zero)) (same_sym sub_is))
 
-  -- only zero is left as it is where it is added to itself
+  -- only zero is unchanged when added to itself
   doubled_is_zero : {t : Term F} → Same r t (add_term t t) → Same r (const_term r.zero) t
   doubled_is_zero {t = t} h =
       same_trans (same_sym (add_opposite {t = t})) (same_trans (same_add h same_refl)

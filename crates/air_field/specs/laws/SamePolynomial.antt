@@ -1,4 +1,4 @@
--- Elements of the extension are the same if their coefficients are.
+-- Elements of the extension are equal if their coefficients are.
 use Rattle.std.specs.Prelude.{◌≡◌, length}
 use Rattle.std.proofs.Math.Nat.{ℕ_set}
 use Rattle.air_field.specs.declared.fields.modulus.Modulus.{Ghosts}

@@ -6,7 +6,7 @@ use Rattle.air_field.specs.Value.{value}
 use Rattle.air_field.specs.Algebra.{closed_value_in, closed_value}
 use Rattle.air_field.specs.laws.Sums.{embed_neg, embed_minus}
 
--- Terms that stand at the leaves count with their values.
+-- Terms that replace the leaves contribute their values.
 module _ {F E : Type 0} (a : AlgebraOver F E) (at : Leaf → E) (s : Leaf → Term F) where
   pub value-leaves : (t : Term F) → value a at (with_leaves s t) ≡ value a (λ l. value a at (s l)) t
   value-leaves (leaf_term l) = refl

@@ -18,7 +18,7 @@ impl Modulus for BabyBearModulus {
 
     const NAME: &'static str = "BabyBear";
 
-    // the factor is 2^93 over the modulus, rounded up: of products it makes the quotient without a mask
+    // The factor is 2^93 over the modulus, rounded up: for products it gives the quotient without a mask.
     fn product(a: u32, b: u32) -> u32 {
         let n = a as u64 * b as u64;
         let quotient = ((n as u128 * 4919131750545854593) >> 93) as u64;
@@ -30,7 +30,7 @@ impl Modulus for BabyBearModulus {
     ghost small = { lit< tt };
 }
 
-/// A whole number modulo 2013265921, kept below it.
+/// A whole number modulo 2013265921, stored below it.
 pub type BabyBear = Residue<BabyBearModulus>;
 
 impl BabyBear {

@@ -7,13 +7,13 @@ use crate::fields::residue::Residue;
 use std::alloc::AllocError;
 use std::fmt;
 
-/// A modulus with the number w of X^4 - w, which is no square.
+/// A modulus with the number w of X^4 - w; w is no square modulo it.
 pub trait BinomialModulus: Modulus {
     ghost W: { ℕ };
 
     ghost no_square: { IsNoSquare Self.P W };
 
-    /// The number.
+    /// The number w.
     const W: u32;
 }
 

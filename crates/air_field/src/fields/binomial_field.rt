@@ -77,7 +77,7 @@ impl<M: BinomialModulus> ExtensionField<Residue<M>> for BinomialExtension<M> {
         }
     }
 
-    // the product of the polynomials, reduced by X^4 = w: w1, w2, w3 stand where a power passes X^3
+    // The product of the polynomials, reduced by X^4 = w. The code multiplies by w1, w2, w3 where a power passes X^3.
     fn mul(self, other: Self) -> Self
         ensures product { result ≡ binomial_product M.W self other }
         ensures coefficients { IsProductModulo (residue_ring M.Modulus)
@@ -133,7 +133,7 @@ impl<M: BinomialModulus> ExtensionField<Residue<M>> for BinomialExtension<M> {
 }
 
 impl<M: BinomialModulus> DomainExtension<Residue<M>> for BinomialExtension<M> {
-    // a polynomial times its adjugate is its norm, which is a number
+    // A polynomial times its adjugate is its norm, which is an element of the base field.
     fn try_inverse(self) -> Option<Self> {
         let adjugate = self.adjugate();
         let [norm, _, _, _] = self.mul(adjugate).value;
@@ -147,7 +147,7 @@ impl<M: BinomialModulus> DomainExtension<Residue<M>> for BinomialExtension<M> {
 }
 
 impl<M: BinomialModulus> BinomialExtension<M> {
-    // by (a + bX + cX^2 + dX^3)(a - bX + cX^2 - dX^3) = even + odd X^2, and once more (even - odd X^2)
+    // By (a + bX + cX^2 + dX^3)(a - bX + cX^2 - dX^3) = even + odd X^2, and then the same step with even - odd X^2.
     fn adjugate(self) -> Self
         ensures { IsAdjugate (binomial_over M.Modulus M.W) (residue_class M.Modulus 0) self result }
     {

@@ -12,16 +12,16 @@ use std::fmt::Debug;
 
 /// A commutative algebra over `F` whose elements are the lists of `DIMENSION` coefficients.
 pub trait ExtensionField<F: Field>: Copy + Eq + Ord + Debug {
-    /// The ring, the element of an element of `F`, and the element of a coefficient list: zero past its end and cut
-    /// at `DIMENSION`.
+    /// The ring, the embedding of `F`, and the element of a coefficient list, which is padded with zeros or cut to
+    /// `DIMENSION` coefficients.
     ghost over: { AlgebraOver F Self };
 
-    /// The coefficients of an element, lowest first, and the element of `F` that it is, where it is one.
+    /// The coefficients of an element, lowest first, and the element of `F` that it equals, if there is one.
     ghost basis: { Basis F Self };
 
     ghost DIMENSION: { ℕ };
 
-    /// How many coefficients an element has.
+    /// The number of coefficients of an element.
     const DIMENSION: usize;
 
     /// Zero.
@@ -56,16 +56,16 @@ pub trait ExtensionField<F: Field>: Copy + Eq + Ord + Debug {
     fn as_basis_coefficients_slice(&self) -> &[F]
         ensures { result.now ≡ basis.coefficients self.now };
 
-    /// The element with these coefficients, lowest first, which must be `DIMENSION`.
+    /// The element with these coefficients, lowest first. There must be `DIMENSION` of them.
     fn from_basis_coefficients(c: &[F]) -> Self
         requires { length c.now ≡ DIMENSION }
         ensures { basis.coefficients result ≡ c.now };
 
-    /// Whether it is `from_base` of an element.
+    /// Whether the element is `from_base` of some element of `F`.
     fn is_in_basefield(&self) -> bool
         ensures { IsTrue result ↔ IsInBase over self.now };
 
-    /// The powers 1, a, .., a^(k-1). Refused only where memory is.
+    /// The powers 1, a, .., a^(k-1). Fails only with `Memory`.
     fn powers(self, alloc: Global, k: usize) -> Result<Vec<Self>, RingError>
         ensures powers { IfOk result (λ v. v.items ≡ powers_of over.ring self k) }
         ensures only_memory { IsOkUnless result RingError.Memory }
@@ -86,9 +86,9 @@ pub trait ExtensionField<F: Field>: Copy + Eq + Ord + Debug {
     ghost eq_is: { (a b : Self) → (Self.eq a b ≡ true) ↔ (a ≡ b) };
 }
 
-/// An extension that is a field: a product is zero only if a factor is, and what isn't zero has an inverse.
+/// An extension that is a field: a product is zero only if a factor is, and every nonzero element has an inverse.
 pub trait DomainExtension<F: Field>: ExtensionField<F> {
-    /// The inverse, or nothing for zero.
+    /// The inverse, or `None` for zero.
     fn try_inverse(self) -> Option<Self>
         ensures { IsInversion Self.over.ring self result };
 

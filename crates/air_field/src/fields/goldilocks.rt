@@ -2,7 +2,7 @@
 ghost use Rattle.std.specs.Prelude.{◌≡◌, ◌<◌, ◌%◌};
 ghost use Rattle.air_field.specs.Limbs.{from_limbs};
 
-/// A whole number modulo 2^64 - 2^32 + 1, kept below it.
+/// A whole number modulo 2^64 - 2^32 + 1, stored below it.
 #[derive(Clone, Copy, PartialEq, Eq, PartialOrd, Ord, Debug)]
 pub struct Goldilocks {
     pub(crate) residue: u64,

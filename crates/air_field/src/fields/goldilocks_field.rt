@@ -112,7 +112,7 @@ impl PrimeField64 for Goldilocks {
 }
 
 impl DomainExtension<Goldilocks> for Goldilocks {
-    // the power by p - 2, since the power by p is the element itself
+    // The inverse is the power p - 2, since the power p of an element is the element.
     fn try_inverse(self) -> Option<Self> {
         if self == <Self as Field>::ZERO {
             return None;

@@ -18,7 +18,7 @@ impl Modulus for KoalaBearModulus {
 
     const NAME: &'static str = "KoalaBear";
 
-    // the factor is 2^93 over the modulus, rounded up: of products it makes the quotient without a mask
+    // The factor is 2^93 over the modulus, rounded up: for products it gives the quotient without a mask.
     fn product(a: u32, b: u32) -> u32 {
         let n = a as u64 * b as u64;
         let quotient = ((n as u128 * 4647998504580026394) >> 93) as u64;
@@ -30,7 +30,7 @@ impl Modulus for KoalaBearModulus {
     ghost small = { lit< tt };
 }
 
-/// A whole number modulo 2130706433, kept below it.
+/// A whole number modulo 2130706433, stored below it.
 pub type KoalaBear = Residue<KoalaBearModulus>;
 
 impl KoalaBear {

@@ -16,7 +16,7 @@ impl Modulus for Mersenne31Modulus {
 
     const NAME: &'static str = "Mersenne31";
 
-    // 2^31 is 1 more than the modulus
+    // 2^31 is 1 modulo this modulus
     fn product(a: u32, b: u32) -> u32 {
         let n = a as u64 * b as u64;
         let sum = (n % 2147483648) as u32 + (n / 2147483648) as u32;
@@ -32,7 +32,7 @@ impl Modulus for Mersenne31Modulus {
     ghost small = { lit< tt };
 }
 
-/// A whole number modulo 2147483647, kept below it.
+/// A whole number modulo 2147483647, stored below it.
 pub type Mersenne31 = Residue<Mersenne31Modulus>;
 
 impl Mersenne31 {

@@ -10,19 +10,19 @@ pub trait Modulus: Copy {
 
     ghost small: { P < 2147483648 };
 
-    /// The number.
+    /// The prime.
     const P: u32;
 
     /// The field's name.
     const NAME: &'static str;
 
-    /// The remainder of a product. A modulus of a special shape needs no division.
+    /// The remainder of a product. A modulus of a special shape can override this to avoid the division.
     fn product(a: u32, b: u32) -> u32
         requires left { a < P }
         requires right { b < P }
         ensures { result ≡ (a * b) % P }
     {
-        // a product has 62 bits; where LLVM sees that, it divides by one multiplication
+        // A product has 62 bits. When LLVM sees that, it divides by one multiplication.
         let product = a as u64 * b as u64 % 4611686018427387904;
         (product % Self::P as u64) as u32
     }

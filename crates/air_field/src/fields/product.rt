@@ -7,7 +7,7 @@ ghost use Rattle.air_field.specs.Residue.{residue_ring};
 use crate::fields::modulus::Modulus;
 use crate::fields::residue::Residue;
 
-/// The sum of the products of what stands at one place of both, by one reduction.
+/// The sum of the four products of elements with the same index, with a single reduction.
 pub(crate) fn dot_product<M: Modulus>(a: &[Residue<M>; 4], b: &[Residue<M>; 4]) -> Residue<M>
     ensures { result ≡ dot (ops (residue_ring M.Modulus)) a.now b.now }
 {

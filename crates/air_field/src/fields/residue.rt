@@ -6,7 +6,7 @@ use std::alloc::AllocError;
 use std::fmt;
 use std::marker::PhantomData;
 
-/// A whole number modulo `M`, kept below it.
+/// A whole number modulo `M`, stored below it.
 #[derive_where(PartialEq, Eq, PartialOrd, Ord)]
 pub struct Residue<M: Modulus> {
     pub(crate) residue: u32,
@@ -48,7 +48,7 @@ impl<M: Modulus> Residue<M> {
         }
     }
 
-    /// The class of a number below twice the modulus, without a division.
+    /// The class of a number below twice the modulus, found without division.
     pub(crate) fn reduced_once(n: u32) -> Self
         requires { n < M.P + M.P }
         ensures { result.residue ≡ n % M.P }
@@ -71,7 +71,7 @@ impl<M: Modulus> Residue<M> {
         }
     }
 
-    /// The product before its reduction. Four of them have a sum below 2^64.
+    /// The product before reduction. The sum of four of them is below 2^64.
     pub(crate) fn unreduced_product(self, other: Self) -> u64
         ensures product { result ≡ self.residue * other.residue }
         ensures small { result < M.P * M.P }

@@ -49,7 +49,7 @@ impl<M: Modulus> Field for Residue<M> {
     }
 
     fn sub(self, other: Self) -> Self {
-        // both wrap where the other is greater, so that LLVM needs no branch
+        // Both operations wrap when the other residue is greater, so that LLVM needs no branch.
         let gap = self.residue.wrapping_sub(other.residue);
         let residue = if self.residue < other.residue {
             gap.wrapping_add(M::P)

@@ -9,7 +9,7 @@ use crate::fields::power::power_of;
 use crate::fields::residue::Residue;
 
 impl<M: Modulus> DomainExtension<Residue<M>> for Residue<M> {
-    // the power by p - 2, since the power by p is the element itself
+    // The inverse is the power p - 2, since the power p of an element is the element.
     fn try_inverse(self) -> Option<Self> {
         if self == <Self as Field>::ZERO {
             return None;

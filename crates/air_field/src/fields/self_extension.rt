@@ -5,7 +5,7 @@ ghost use Rattle.air_field.specs.Ring.{self_algebra};
 use crate::fields::extension::ExtensionField;
 use crate::fields::field::Field;
 
-/// A field as an extension of itself: its elements and operations are those of the field.
+/// A field as an extension of itself, with the field's own elements and operations.
 pub trait SelfExtension: Field + ExtensionField<Self> {
     // the algebra over the field is the field itself
     ghost over_itself: { Self.over ≡ self_algebra Self.ring };

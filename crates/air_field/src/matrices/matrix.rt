@@ -1,4 +1,4 @@
-//! A matrix, which clauses see as its list of rows.
+//! A matrix; contracts describe it by its list of rows.
 ghost use Rattle.std.specs.Prelude.{◌≡◌, IfSome, length, slice_get};
 ghost use Rattle.std.specs.Option.{option_copied, option_and_then};
 ghost use Rattle.air_field.specs.Matrix.{matrix_of};
@@ -27,8 +27,8 @@ impl<T> Model for RowMajorMatrix<T> {
 }
 
 impl<T: Copy> RowMajorMatrix<T> {
-    /// The matrix of these values, row after row. It refuses with `Ragged` where they don't make whole rows: where the
-    /// width doesn't divide their number, or is 0 and there are some. It takes no memory.
+    /// The matrix of these values, row by row. Fails with `Ragged` unless they make whole rows: unless the width
+    /// divides the number of values, or both are 0. Allocates nothing.
     pub fn new(values: Vec<T>, width: usize) -> Result<Self, MatrixError>
         ensures { result ≡ matrix_of width values.items }
     {
@@ -67,7 +67,7 @@ impl<T: Copy> RowMajorMatrix<T> {
         self.height
     }
 
-    /// The row's elements, if there is such a row.
+    /// The elements of a row, or `None` past the last row.
     pub fn row_slice(&self, row: usize) -> Option<&[T]>
         ensures row { option_copied result ≡ slice_get self.now.rows row }
         ensures width { IfSome result (λ r. length r.now ≡ self.now.width) }
@@ -79,7 +79,7 @@ impl<T: Copy> RowMajorMatrix<T> {
         Some(&self.values[start..start + self.width])
     }
 
-    /// The element, if there is such a place.
+    /// The element at this row and column, or `None` if either is out of range.
     pub fn get(&self, row: usize, column: usize) -> Option<T>
         ensures { result ≡ option_and_then (λ r. slice_get r column) (slice_get self.now.rows row) }
     {

@@ -1,9 +1,9 @@
-//! Views: parts of matrices that are lent.
+//! Views: borrowed parts of matrices.
 ghost use Rattle.std.specs.Prelude.{◌≡◌, length, ⊤};
 
 use std::alloc::AllocError;
 
-/// A part of a matrix that is lent.
+/// A borrowed part of a matrix.
 #[derive(Clone, Copy, Debug)]
 pub struct RowMajorMatrixView<'a, T> {
     pub values: &'a [T],
@@ -11,7 +11,7 @@ pub struct RowMajorMatrixView<'a, T> {
 }
 
 impl<'a, T: Copy> RowMajorMatrixView<'a, T> {
-    /// A view of these values, row after row, as rows of `width` elements. The width is not compared with their number.
+    /// A view of these values, row by row, as rows of `width` elements. Doesn't check that they make whole rows.
     pub fn new(values: &'a [T], width: usize) -> Self
         ensures values { result.values.now ≡ values.now }
         ensures width { result.width ≡ width }
@@ -31,7 +31,7 @@ impl<'a, T: Copy> RowMajorMatrixView<'a, T> {
     }
 }
 
-/// Two rows of one width, each a view.
+/// Two rows of equal width, each a view.
 #[derive(Debug)]
 pub struct ViewPair<'a, T> {
     pub top: RowMajorMatrixView<'a, T>,
@@ -54,7 +54,7 @@ impl<'a, T: Copy> Clone for ViewPair<'a, T> {
 }
 
 impl<'a, T: Copy> ViewPair<'a, T> {
-    /// Two views of one row each, of one width.
+    /// A pair of two views, each of one row, of equal width.
     pub fn new(top: RowMajorMatrixView<'a, T>, bottom: RowMajorMatrixView<'a, T>) -> Self
         requires top_row { length top.values.now ≡ top.width }
         requires bottom_row { length bottom.values.now ≡ bottom.width }

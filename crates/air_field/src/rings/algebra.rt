@@ -1,4 +1,4 @@
-//! Rings of expressions, known by which terms their elements mean.
+//! Rings of expressions, described by the terms that their elements mean.
 ghost use Rattle.std.specs.Prelude.{◌≡◌, ◌↔◌, IsTrue, IfOk, IfErr, All};
 ghost use Rattle.air_field.specs.declared.errors.RingError.{RingError};
 ghost use Rattle.air_field.specs.Term.{Term, const_term, add_term, sub_term, neg_term, mul_term};
@@ -11,30 +11,30 @@ use crate::fields::field::Field;
 use crate::fields::power::power_of;
 
 /// A ring whose elements are made by calls, as in an arena: values of `Elem` are handles. A handle stays valid and
-/// keeps its meaning, whatever is made later. The calls take only handles of this ring, as
-/// [`contains`](Algebra::contains) tells.
+/// keeps its meaning, whatever is made later. The calls take only handles of this ring; [`contains`](Algebra::contains)
+/// checks that.
 ///
-/// They are calls and no operators, since to make an element may take memory.
+/// These are calls and not operators, because making an element may allocate.
 pub trait Algebra<F: Field> {
     /// The ring's elements.
     type Elem: Copy;
 
-    /// The ring is as its calls left it.
+    /// The ring is in a state that its calls can reach.
     ghost valid: { Self → Type 0 };
 
-    /// It is an element of the ring.
+    /// A handle is an element of the ring.
     ghost has: { Self → Self.Elem → Type 0 };
 
     /// An element means a term.
     ghost means: { Self → Self.Elem → Term F → Type 0 };
 
-    /// What meant a term before still means it.
+    /// The second ring keeps every meaning of the first.
     ghost extends: { Self → Self → Type 0 };
 
-    /// The making of a term may answer an error.
+    /// Making an element that means this term may fail with this error.
     ghost refuses: { RingError → Term F → Type 0 };
 
-    /// Whether `x` is of this ring.
+    /// Whether `x` is an element of this ring.
     fn contains(&self, x: Self::Elem) -> bool
         requires { valid self.now }
         ensures { IsTrue result ↔ has self.now x };
@@ -77,8 +77,8 @@ pub trait Algebra<F: Field> {
         ensures made { IfOk result (MadeOfBoth has means mul_term self.old self.new x y) }
         ensures refused { IfErr result (RefusedOfBoth means refuses mul_term self.old x y) };
 
-    /// condition x, of an assertion under a condition. A condition is mostly a selector, 0 or 1 at each row: where the
-    /// elements are values, a ring can see that and spare the product.
+    /// `condition * x`, for assertions under a condition. A condition is mostly a selector, which is 0 or 1 at each
+    /// row. A ring of values can test for that and skip the multiplication.
     fn gate(&mut self, condition: Self::Elem, x: Self::Elem) -> Result<Self::Elem, RingError>
         requires condition_in { has self.old condition }
         requires x_in { has self.old x }
@@ -154,7 +154,7 @@ pub trait Algebra<F: Field> {
         self.mul(x, scale)
     }
 
-    /// The sum, from the left; of none, 0.
+    /// The sum, added from the left; 0 for the empty list.
     fn sum(&mut self, xs: &[Self::Elem]) -> Result<Self::Elem, RingError>
         requires valid { valid self.old }
         requires all_in { All (has self.old) xs.now }
@@ -173,7 +173,7 @@ pub trait Algebra<F: Field> {
         Ok(total)
     }
 
-    /// The product, from the left; of none, 1.
+    /// The product, multiplied from the left; 1 for the empty list.
     fn product(&mut self, xs: &[Self::Elem]) -> Result<Self::Elem, RingError>
         requires valid { valid self.old }
         requires all_in { All (has self.old) xs.now }
@@ -194,7 +194,7 @@ pub trait Algebra<F: Field> {
     ghost laws: { AlgebraLaws valid has means extends refuses };
 }
 
-/// A ring that makes elements of variables of the type `V`.
+/// A ring that can make elements from variables of type `V`.
 pub trait FromVar<F: Field, V>: Algebra<F> {
     /// A variable means a term.
     ghost var_means: { V → Term F → Type 0 };

@@ -1,4 +1,4 @@
-//! Rings over an extension, which take the elements of a base ring.
+//! Rings over an extension, into which a base ring's elements can be lifted.
 ghost use Rattle.std.specs.Prelude.{IfOk, IfErr};
 ghost use Rattle.air_field.specs.Term.{Term, ext_const_term};
 ghost use Rattle.air_field.specs.Algebra.{Made};
@@ -9,18 +9,18 @@ use crate::fields::extension::ExtensionField;
 use crate::fields::field::Field;
 use crate::rings::algebra::Algebra;
 
-/// A ring over the extension `EF` of `F`. What is an element of its base stays one, and what it means stays.
+/// A ring over the extension `EF` of `F`. Elements of the base ring stay in it and keep their meaning.
 pub trait ExtAlgebra<F: Field, EF: ExtensionField<F>>: Algebra<F> {
     /// The elements of the base ring.
     type Base: Copy;
 
-    /// It is an element of the base.
+    /// A handle is an element of the base ring.
     ghost base_has: { Self → Self.Base → Type 0 };
 
-    /// An element of the base means a term.
+    /// An element of the base ring means a term.
     ghost base_means: { Self → Self.Base → Term F → Type 0 };
 
-    /// The element that means what `x` means in the base.
+    /// The element that means what `x` means in the base ring.
     fn lift(&mut self, x: Self::Base) -> Result<Self::Elem, RingError>
         requires { base_has self.old x }
         ensures extended { Self.extends self.old self.new }

@@ -14,7 +14,7 @@ use crate::rings::algebra::{Algebra, FromVar};
 use crate::rings::ext_algebra::ExtAlgebra;
 use std::marker::PhantomData;
 
-/// The extension as a ring: it keeps nothing and refuses nothing.
+/// The extension as a ring. It has no state and never fails.
 #[derive(Clone, Copy)]
 pub struct ExtFieldRing<F, EF> {
     base: PhantomData<F>,
@@ -22,7 +22,7 @@ pub struct ExtFieldRing<F, EF> {
 }
 
 impl<F: Field, EF: ExtensionField<F>> ExtFieldRing<F, EF> {
-    /// The ring of the extension: its type has this value alone.
+    /// The ring, which is the only value of its type.
     pub fn new() -> Self
         ensures { (r : Self F EF) → r ≡ result }
     {

@@ -1,4 +1,4 @@
-//! The ring whose elements are the values themselves.
+//! The ring whose elements are field values.
 ghost use Rattle.std.specs.Prelude.{◌≡◌, ⊤, IsTrue, refl};
 ghost use Rattle.air_field.specs.Ring.{minus};
 ghost use Rattle.air_field.specs.Term.{IsBase, const_term};
@@ -10,14 +10,14 @@ use crate::fields::field::Field;
 use crate::rings::algebra::{Algebra, FromVar};
 use std::marker::PhantomData;
 
-/// The field as a ring: it keeps nothing and refuses nothing. Its elements mean base terms alone.
+/// The field as a ring. It has no state and never fails. Its elements mean base terms only.
 #[derive(Clone, Copy)]
 pub struct FieldRing<F> {
     of: PhantomData<F>,
 }
 
 impl<F: Field> FieldRing<F> {
-    /// The ring of the field: its type has this value alone.
+    /// The ring, which is the only value of its type.
     pub fn new() -> Self
         ensures { (r : Self F) → r ≡ result }
     {

@@ -1,4 +1,4 @@
--- What a reader answers that reads or finds nothing.
+-- The answers of a reader that can't read a value.
 use Rattle.std.proofs.Common.{◌≡◌, ◌≢◌, Option, Some, None, Result, Ok, Err, ap, ◌∙◌}
 use Rattle.std.specs.Option.{ok_or}
 use Rattle.std.specs.Result.{IfOk, IfErr}

@@ -1,4 +1,4 @@
--- Base leaves: what is read is what is spelt.
+-- Base leaves: reading answers exactly the leaf that is spelt.
 use Rattle.std.specs.Prelude.{◌≡◌, ℕ, List, Option, Some, None, Result, Ok, Err, option_map, codes, if◌then◌else◌, nat_lt, ok_or, refl, true}
 use Rattle.std.proofs.Common.{sym, ap, ◌∙◌, ◌⊎◌, inl, inr, ⊎_elim}
 use Rattle.std.proofs.lemmas.Bool.{ltb-true, ltb-false, lt-ltb, le-ltb}
@@ -134,7 +134,7 @@ module _ {F : Type 0} {p : ℕ} (m : Modular F p) where
     once = λ d e a h k. h ∙ sym k;
   }
 
--- what is seen of a tree of base leaves is the tree
+-- replacing base leaves by their views doesn't change a tree
 same_tree : {F : Type 0} (t : Tree (BaseLeaf F)) → map_leaves (base_seen tt) t ≡ t
 same_tree (leaf_tree a) = refl
 same_tree (add_tree t u) = cc (same_tree t, same_tree u)

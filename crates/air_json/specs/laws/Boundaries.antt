@@ -1,4 +1,4 @@
--- Boundary cells: what is read is what is spelt, and what is written is one spelling.
+-- Boundary values: reading answers exactly the one that is spelt, and the written value is one spelling.
 use Rattle.std.specs.Prelude.{◌≡◌, Some, option_and_then, codes, refl}
 use Rattle.std.proofs.Common.{ap, ◌∙◌}
 use Rattle.serde_json.specs.Data.{Data, string}

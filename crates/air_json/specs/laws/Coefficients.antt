@@ -1,4 +1,4 @@
--- A list of field elements is found where it is spelt, and nowhere else.
+-- Reading a list of field elements answers exactly the list that is spelt.
 use Rattle.std.specs.Prelude.{◌≡◌, ℕ, ◌&&◌, Bool, true, false, List, [], ◌∷◌, map, length, Option, Some, None, Ok, Err, option_map, option_and_then, if◌then◌else◌, ok_or, refl}
 use Rattle.std.specs.List.{list_all}
 use Rattle.std.proofs.Common.{sym, ap, ap₂, ◌∙◌, arith, eqb, rules, tests, ◌⊎◌, inl, inr}
@@ -113,7 +113,7 @@ module _ {F : Type 0} {p : ℕ} (m : Modular F p) where
       ∙ ap (λ b. if b then Ok (map m.class (residues cs)) else Err (faults.NotCanonical place)) (residues_canonical cs)
       ∙ ap (λ v. ok_of v) (residues_again cs)
 
-  -- ---- lists that aren't read
+  -- ---- lists that can't be read
 
   some_past : (ns : List ℕ) → list_all (is_canonical p) ns ≡ false → SomePast p ns
   some_past [] e = absurd cc

@@ -1,4 +1,4 @@
--- Base entries and variables: what is read is what is spelt, and what is written is one spelling.
+-- Base entries and variables: reading answers exactly the one that is spelt, and the written value is one spelling.
 use Rattle.std.specs.Prelude.{◌≡◌, Some, refl}
 use Rattle.air_json.specs.Plain.{PlainLaws}
 use Rattle.air_json.specs.EntryForms.{entry_of_form}

@@ -1,4 +1,5 @@
--- Entries by their forms, and variables: what is read is what is spelt, and what is written is one spelling.
+-- Entries by their forms, and variables: reading answers exactly the one that is spelt, and the written value is one
+-- spelling.
 use Rattle.std.specs.Prelude.{◌≡◌, ℕ, Some, None, option_map, option_and_then, codes, refl}
 use Rattle.std.proofs.Common.{sym, ap, subst, ◌∙◌}
 use Rattle.serde_json.specs.Data.{Data}

@@ -1,4 +1,4 @@
--- Extension leaves: what is read is what is spelt, and what is seen of a leaf stays.
+-- Extension leaves: reading answers exactly the leaf that is spelt, and a leaf's view stays.
 use Rattle.std.specs.Prelude.{◌≡◌, ℕ, List, Result, Ok, Err, option_map, codes, ok_or, length, refl}
 use Rattle.std.proofs.Common.{sym, ap, ◌∙◌, ◌⊎◌, inl, inr, ⊎_elim}
 use Rattle.serde_json.specs.Data.{Data, array}
@@ -41,7 +41,7 @@ moved_failed : {A : Type 0} (place : ℕ) (r : Result A FlatError) (f : FlatErro
 moved_failed place (Ok a) f e = absurd cc
 moved_failed {A} place (Err g) f e = (g, refl, sym (err_is {A = A} (at_place place g) f e))
 
--- what is seen of a leaf stays as the base pool grows
+-- the view of a leaf stays as the base pool grows
 module _ {F EF : Type 0} (r : CommRing F) (basis : Basis F EF) where
   seen-kept : (u v : BaseNodes F) → ext_grows u v → (a : ExtLeaf F EF) → ext_valid u a → whole_leaf v a ≡ whole_leaf u a
   seen-kept u v g (Base i) h = ap (λ t. whole_base t) (tree-kept r base_reads base_grows tt (base_leaf_laws r) u v i g h.here)
@@ -57,7 +57,7 @@ module _ {F EF : Type 0} (r : CommRing F) (basis : Basis F EF) where
   ext_wire_laws = record { term_is = seen-term; kept = seen-kept; one = λ u. same_leaf u }
 
 module _ {F EF : Type 0} {p : ℕ} (m : Modular F p) (r : CommRing F) (a : AlgebraOver F EF) (basis : Basis F EF) (count : ℕ) (laws : ExtensionLaws r a basis count) where
-  -- the element of a list of so many coefficients
+  -- the element of a list of `count` coefficients
   extended : (cs : List F) → length cs ≡ count → basis.coefficients (a.extend cs) ≡ cs
   extended cs h = laws.extend_is cs ∙ padded-whole r.zero count cs h
 

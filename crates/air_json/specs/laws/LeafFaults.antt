@@ -1,4 +1,4 @@
--- A leaf that isn't read has a fault, and what has a fault isn't read.
+-- A value that spells no leaf has a fault, and a value with a fault spells no leaf.
 use Rattle.std.proofs.Common.{◌≡◌, ℕ, Result, Ok, Err, refl, sym, ap, ◌∙◌, ◌⊎◌, inl, inr}
 use Rattle.serde_json.specs.Data.{Data}
 use Rattle.air_json.specs.declared.errors.FlatError.{FlatError}

@@ -153,7 +153,7 @@ module _ {S F : Type 0} (kind : Kind S F) (laws : KindLaws kind) where
   root_fault_read d f (inl h) = ap whole h.0 ∙ ap (λ g. err_of g) (sym h.1)
   root_fault_read d f (inr h) = ap whole h.1 ∙ items_fault_read h.0 f h.2
 
-  -- ---- what follows
+  -- ---- consequences
 
   pub one_tree : (d : Data) (t u : Option (Tree S)) → IsList kind d t → IsList kind d u → t ≡ u
   one_tree d t u h k = done_is (λ v. t ≡ v) t u (sym (root_again d t h) ∙ root_again d u k) refl
@@ -164,7 +164,7 @@ module _ {S F : Type 0} (kind : Kind S F) (laws : KindLaws kind) where
   pub one_fault : (d : Data) (f g : FlatError) → HasFault kind d f → HasFault kind d g → f ≡ g
   one_fault d f g h k = err_is f g (sym (root_fault_read d f h) ∙ root_fault_read d g k)
 
--- ---- what a reader answers
+-- ---- the answers of a reader
 
 pub gives_ok : {X Y : Type 0} (P : Y → Type 0) (view : X → Y) (r : Result X FlatError) (read : Result Y FlatError) → Gives view r read → ((y : Y) → read ≡ Ok y → P y) → IfOk r (λ x. P (view x))
 gives_ok P view (Ok x) read g h = h (view x) g
@@ -194,7 +194,7 @@ fails_if (faults.Operand at operand) read h = h (λ e. absurd cc)
 fails_if (faults.WrongDegree at stated found) read h = h (λ e. absurd cc)
 fails_if (faults.NotCanonical at) read h = h (λ e. absurd cc)
 
--- a call that answers a list's root or its first fault gives what reading gives
+-- a call that answers a list's root or its first fault answers the result of reading
 pub root_given : {X S F : Type 0} (kind : Kind S F) (laws : KindLaws kind) (tree : X → Option (Tree S)) (d : Data) (r : Result X FlatError)
     → IfOk r (λ i. IsList kind d (tree i)) → IfErr r (λ f. f ≢ faults.Memory → HasFault kind d f) → Gives tree r (root_of kind d)
 root_given kind laws tree d (Ok i) h n = root_again kind laws d (tree i) h

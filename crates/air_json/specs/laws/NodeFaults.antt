@@ -1,4 +1,4 @@
--- A node that isn't read has a first fault, and what has one isn't read.
+-- A value that can't be read as a node has a first fault, and a value with a fault can't be read.
 use Rattle.std.proofs.Common.{◌≡◌, ◌≢◌, ℕ, zero, suc, ◌+◌, ◌≤◌, ◌<◌, ◌^◌, max, Bool, true, false, ltb, eqb, bytes_eq, if◌then◌else◌, List, [], ◌∷◌, length, Option, Some, None, option_map, option_and_then, Result, Ok, Err, codes, refl, sym, ap, subst, ◌∙◌, arith, ◌⊎◌, inl, inr, ⊎_elim, rules, tests}
 use Rattle.std.specs.Option.{ok_or}
 use Rattle.std.specs.List.{slice_get}
@@ -21,7 +21,7 @@ use Rattle.air_json.specs.NodeFaults.{Form, leaf_form, add_form, sub_form, mul_f
 
 -- ---- the form of a value
 
--- a form as it is read, where a negative's operand stands for both
+-- the form as it is read, where the only operand of a negative is used for both
 data Raw : Type 0 where
   raw_leaf : Data → Raw
   raw : Operation → ℕ × ℕ × ℕ → Raw
@@ -46,7 +46,7 @@ raw_again d (sub_form n x y) h = ap raw_of h.1 ∙ ap (option_map (λ p. raw Sub
 raw_again d (mul_form n x y) h = ap raw_of h.1 ∙ ap (option_map (λ p. raw Mul p)) (places_read Mul h.0 n x y h.2.0 h.2.1 (field_read (codes "y") h.0 y h.2.2))
 raw_again d (neg_form n x) h = ap raw_of h.1 ∙ ap (option_map (λ p. raw Neg p)) (places_read Neg h.0 n x x h.2.0 h.2.1 (field_read (codes "x") h.0 x h.2.1))
 
--- what the value spells whose form is read so
+-- the value spells the form that is read so
 abbrev SpellsRaw : Data → Raw → Type 0
 SpellsRaw d (raw_leaf c) = d ≡ case_data (codes "Leaf") c
 SpellsRaw d (raw op p) = (c : Data) × (d ≡ case_data (operation_name op) c) × (operands_of op c ≡ Some p)
@@ -61,7 +61,7 @@ raw_found d m e =
     (λ e. then_found (P m) (λ op. option_map (λ p. raw op p) (operands_of op c)) (find_name operations name) m e
     (λ op is e. map_found P (λ p. raw op p) (operands_of op c) m e (λ p at. (c, ap (λ n. case_data n c) (named_operation name op is), at)))))
 
--- what is read so has a form
+-- a form that is read so is spelt by the value
 operation_spelt : (op : Operation) (d c : Data) (p : ℕ × ℕ × ℕ) → d ≡ case_data (operation_name op) c → operands_of op c ≡ Some p → (m : Form) × SpellsForm d m
 unfolding operation_name
 operation_spelt Add d c p is at =
@@ -215,7 +215,7 @@ module _ {S F : Type 0} (kind : Kind S F) (laws : KindLaws kind) (before : List 
       go None is e = inl ((λ m s. none_found (λ _. ⊥) (raw_form m) (sym is ∙ raw_again d m s)), sym (err_is (faults.Shape (length before)) f e))
       go (Some m) is e = inr (raw_fault d m f (raw_found d m is) e)
 
-  -- ---- what has a fault isn't read
+  -- ---- a value with a fault can't be read
 
   stated_wrong : {X : Type 0} (n found : ℕ) (t : X) (f : FlatError) → IsMisstated before n found f → check_degree (length before) n found t ≡ Err f
   stated_wrong n found t f h =

@@ -1,4 +1,4 @@
--- What is read is a list of nodes, and every list of nodes is read.
+-- Reading answers lists of nodes only, and every list of nodes is read.
 use Rattle.std.proofs.Common.{◌≡◌, ℕ, ◌<◌, ◌+◌, ◌^◌, true, ltb, eqb, if◌then◌else◌, List, length, Option, Some, None, Ok, Err, codes, refl, sym, ap, subst, ◌∙◌, rules, tests}
 use Rattle.std.specs.Option.{ok_or}
 use Rattle.std.specs.List.{slice_get}
@@ -72,7 +72,7 @@ done_back : {A : Type 0} (P : A → Type 0) (x z : A) → ok_of x ≡ ok_of z �
 done_back P x z e h = done_is P z x (sym e) h
 
 module _ {S F : Type 0} (kind : Kind S F) (before : List (Tree S)) where
-  -- the operands of an operation and its degree, where they were found
+  -- the operands of an operation and its degree, as they were found
   abbrev AreOperands : Operation → Data → Tree S × Tree S → Type 0
   AreOperands op c q =
       (p : ℕ × ℕ × ℕ) × (operands_of op c ≡ Some p) × (slice_get before p.1 ≡ Some q.0) × (slice_get before p.2 ≡ Some q.1)

@@ -1,4 +1,4 @@
--- Values that keep no memory: a value spells one at most.
+-- Values that own no memory: a JSON value spells at most one.
 use Rattle.std.specs.Prelude.{◌≡◌, Some}
 use Rattle.std.proofs.Common.{sym, ◌∙◌}
 use Rattle.serde_json.specs.Data.{Data}

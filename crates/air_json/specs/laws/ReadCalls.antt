@@ -1,4 +1,4 @@
--- What a call that reads nodes into a pool answers where a call in it was refused.
+-- The answer of a call that reads nodes into a pool when a call in it failed.
 use Rattle.std.proofs.Common.{◌≡◌, ℕ, List, Option, Result}
 use Rattle.std.specs.Result.{IsErrAnd}
 use Rattle.std.proofs.lemmas.Result.{err_from_is_err_and}

@@ -1,4 +1,4 @@
--- What is found by reading a value is what the value spells.
+-- The result of reading a value is one that the value spells.
 use Rattle.air_json.specs.declared.errors.FlatError.{FlatError}
 use Rattle.air_json.specs.Results.{◌>>=◌}
 use Rattle.std.specs.Prelude.{◌≡◌, ℕ, List, [], ◌∷◌, Bool, true, false, Option, Some, None, Result, Ok, Err, ok_or, option_map, option_and_then, if◌then◌else◌, bytes_eq, refl, ⊤}
@@ -16,7 +16,7 @@ by_test : {A : Type 0} (P : A → Type 0) (b : Bool) (x y : Option A) (z : A) �
 by_test P true x y z e p q = p refl e
 by_test P false x y z e p q = q e
 
--- one of the two ways of a comparison of names
+-- one of the two cases of a comparison of names
 pub by_name : {A : Type 0} (P : A → Type 0) (s t : List ℕ) (x y : Option A) (z : A) → if bytes_eq s t then x else y ≡ Some z → (s ≡ t → x ≡ Some z → P z) → (y ≡ Some z → P z) → P z
 by_name P s t x y z e p q = by_test P (bytes_eq s t) x y z e (λ b. p ((bytes_eq-Decides s t).0 b)) q
 
@@ -48,7 +48,7 @@ field_found name d n e = whole_found (get name d) n e
 pub field_read : (name : List ℕ) (d : Data) (n : ℕ) → HasWhole name n d → whole_at name d ≡ Some n
 field_read name d n h = ap (option_and_then as_whole_number) h
 
--- ---- what was made of parts that were found
+-- ---- values made of parts that were found
 
 pub both_found : {A B C : Type 0} (P : C → Type 0) (make : A → B → C) (x : Option A) (y : Option B) (z : C) → all_two make x y ≡ Some z → ((a : A) (b : B) → x ≡ Some a → y ≡ Some b → P (make a b)) → P z
 both_found P make None y z e h = none_found P z e
@@ -66,7 +66,7 @@ pub then_found : {A B : Type 0} (P : Type 0) (f : A → Option B) (o : Option A)
 then_found P f None z e h = none_found (λ _. P) z e
 then_found P f (Some a) z e h = h a refl e
 
--- a field that is read, and found
+-- a field that is spelt is found
 pub field_again : {A : Type 0} (spells : Data → A → Type 0) (read : Data → Option A) → ((d : Data) (x : A) → spells d x → read d ≡ Some x)
     → (name : List ℕ) (d : Data) (x : A) → HasField name (λ c. spells c x) d → option_and_then read (get name d) ≡ Some x
 field_again spells read again name d x h = ap (option_and_then read) h.1 ∙ again h.0 x h.2
@@ -76,7 +76,7 @@ pub field_with : {A : Type 0} (spells : Data → A → Type 0) (read : Data → 
 field_with spells read found name d x e =
     then_found (HasField name (λ c. spells c x) d) read (get name d) x e (λ c is e. (c, is, found c x e))
 
--- P of each row
+-- P holds for each row
 abbrev pub Rows : {A : Type 0} → (List ℕ → A → Type 0) → List (List ℕ × A) → Type 0
 Rows P [] = ⊤
 Rows P (row ∷ rows) = P row.0 row.1 × Rows P rows
@@ -143,7 +143,7 @@ pub bind_failed : {A B : Type 0} (P : Type 0) (r : Result A FlatError) (k : A �
 bind_failed P (Ok x) k f e p q = q x refl e
 bind_failed {A} {B} P (Err g) k f e p q = p (ap (λ h. err_of h) (err_is {A = B} g f e))
 
--- one of the two ways of a test, or of a comparison of names, failed
+-- one of the two cases of a test, or of a comparison of names, failed
 pub test_failed : {A : Type 0} (P : Type 0) (b : Bool) (x y : Result A FlatError) (f : FlatError) → if b then x else y ≡ Err f → (b ≡ true → x ≡ Err f → P) → (b ≡ false → y ≡ Err f → P) → P
 test_failed P true x y f e p q = p refl e
 test_failed P false x y f e p q = q refl e
@@ -151,7 +151,7 @@ test_failed P false x y f e p q = q refl e
 pub name_failed : {A : Type 0} (P : Type 0) (s t : List ℕ) (x y : Result A FlatError) (f : FlatError) → if bytes_eq s t then x else y ≡ Err f → (s ≡ t → x ≡ Err f → P) → (y ≡ Err f → P) → P
 name_failed P s t x y f e p q = test_failed P (bytes_eq s t) x y f e (λ b. p ((bytes_eq-Decides s t).0 b)) (λ _. q)
 
--- a case is an object of one member
+-- a case is an object with one member
 pub only_found : (d : Data) (c : List ℕ × Data) → only_member d ≡ Some c → d ≡ case_data c.0 c.1
 only_found null c e = absurd cc
 only_found (boolean b) c e = absurd cc
@@ -170,7 +170,7 @@ text_found (string t) s e = ap (λ x. string x) (some_is t s e)
 text_found (array ds) s e = absurd cc
 text_found (object ms) s e = absurd cc
 
--- what is said of a value for which a case was read, a text
+-- a property of a value that was read as a case, or as a text
 pub case_read : {B : Type 0} (P : Data → Type 0) (Is : B → Type 0) (other : B) (read : List ℕ → Data → B) (d : Data) → Is (case_or other read (only_member d)) → (Is other → P d)
     → ((name : List ℕ) (c : Data) → Is (read name c) → P (case_data name c)) → P d
 case_read P Is other read d h none case = go (only_member d) refl h

@@ -1,4 +1,4 @@
--- A list of whole numbers is found where it is spelt, and nowhere else.
+-- Reading a list of whole numbers answers exactly the list that is spelt.
 use Rattle.std.specs.Prelude.{◌≡◌, ℕ, List, [], ◌∷◌, Option, Some, None, option_map, option_and_then, refl}
 use Rattle.std.proofs.Common.{ap, ap₂, ◌∙◌}
 use Rattle.serde_json.specs.Data.{Data, null, boolean, number, string, array, object, Items, no_items, item}

@@ -1,4 +1,4 @@
--- What is written for a tree is a list of that tree, and it is one value.
+-- The value written for a tree is a list of that tree, and only one value is written for it.
 use Rattle.std.proofs.Common.{◌≡◌, ℕ, suc, zero, ◌+◌, ◌≤◌, max, List, [], ◌∷◌, ◌++◌, append_assoc, length, length-append, Option, Some, codes, refl, sym, ap, ap₂, subst, ◌∙◌, arith, ◌⊎◌, inl, inr, ⊎_elim}
 use Rattle.std.specs.List.{slice_get}
 use Rattle.serde_json.specs.Data.{Data, array}
@@ -109,7 +109,7 @@ module _ {X : Type 0} where
   adds_split done (x ∷ xs) ys all (inr h) =
       let r = adds_split (done ++ x ∷ []) xs ys all h.1 in (r.0, inr (h.0, r.1), r.2)
 
-  -- each element is of done or was added
+  -- each element was in `done` or in xs
   adds_from : (done xs all : List X) (y : X) → Adds done xs all → IsAmong all y → IsAmong done y ⊎ IsAmong xs y
   unfolding Adds
   adds_from done [] all y h k = inl (subst (λ (l : List X). IsAmong l y) h k)
@@ -125,7 +125,7 @@ module _ {X : Type 0} where
       (λ (r : IsAmong xs y). inr (suc r.0, r.1))
       (adds_from (done ++ x ∷ []) xs all y h.1 k)
 
--- ---- the root stands last
+-- ---- the root is last
 
 -- the subtrees of the operands
 abbrev pub parts : {S : Type 0} → Tree S → List (Tree S)
@@ -152,7 +152,7 @@ module _ {S : Type 0} where
       plus_one : (n : ℕ) → n + 1 ≡ suc n
       plus_one n = omega arith
 
-  -- a part of the operands is smaller
+  -- a part of an operand has no more subtrees than both operands together
   smaller_of_two : (t u x : Tree S) → ((x : Tree S) → IsAmong (subtrees t) x → count x ≤ count t)
       → ((x : Tree S) → IsAmong (subtrees u) x → count x ≤ count u) → IsAmong (subtrees t ++ subtrees u) x
       → count x ≤ length (subtrees t ++ subtrees u)
@@ -202,7 +202,7 @@ module _ {S : Type 0} where
       at_root (mid, first, inr last) = (mid, last.1)
 
 module _ {S F : Type 0} (kind : Kind S F) (laws : KindLaws kind) where
-  -- ---- what is written is a list of nodes
+  -- ---- the written value is a list of nodes
 
   written_node : (before : List (Tree S)) (d : Data) (t : Tree S) → IsWrittenNode kind before d t → SpellsNode kind before d t
   written_node before d (leaf_tree a) h = (h.0, h.1, laws.written h.0 a h.2)
@@ -233,7 +233,7 @@ module _ {S F : Type 0} (kind : Kind S F) (laws : KindLaws kind) where
         nodes = subst (AreNodes kind [] (items_of h.items)) last.1 (written_nodes [] h.items h.of.trees h.of.nodes);
       }
 
-  -- ---- one value is written
+  -- ---- only one value is written
 
   one_two : (name : List ℕ) (before : List (Tree S)) (t u : Tree S) (n : ℕ) (d e : Data) → Once before → WritesTwo name before t u n d → WritesTwo name before t u n e → d ≡ e
   one_two name before t u n d e once (x, y, is) (v, w, also) =

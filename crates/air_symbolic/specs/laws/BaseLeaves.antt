@@ -1,4 +1,4 @@
--- What base leaves keep.
+-- The laws of base leaves.
 use Rattle.std.specs.Prelude.{◌≡◌, Some, refl}
 use Rattle.air_field.specs.Ring.{CommRing}
 use Rattle.air_field.specs.Term.{const_term}

@@ -1,4 +1,4 @@
--- What leaves over an extension keep as the base pool grows.
+-- The laws of extension leaves as the base pool grows.
 use Rattle.std.specs.Prelude.{◌≡◌, ℕ, ◌-◌, Option, None, Some, refl}
 use Rattle.std.proofs.Common.{◌∙◌, sym, subst, ap}
 use Rattle.air_field.specs.Ring.{CommRing, AlgebraOver}
@@ -28,7 +28,7 @@ module _ {F EF : Type 0} {r : CommRing F} {over : AlgebraOver F EF} {basis : Bas
   base_tree-constant (Some (neg_tree t)) c e = cc
   base_tree-constant (Some (mul_tree t u)) c e = cc
 
-  -- an element of the base field is that element as an extension constant too
+  -- an element of the base field, as a base constant, equals that element as an extension constant
   part-same : (x : EF) (c : F) → basis.base_part x ≡ Some c → Same r (const_term c) (ext_const_term (basis.coefficients x))
   part-same x c e =
       subst (λ xs. Same r (const_term c) (ext_const_term xs)) (sym (ap basis.coefficients (laws.part_is x c e) ∙ laws.embed_is c))

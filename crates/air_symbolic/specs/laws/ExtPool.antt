@@ -1,4 +1,4 @@
--- What a pool over an extension keeps, as itself and of the base pool that it owns.
+-- The laws of an extension pool as a ring, over the base pool that it owns.
 use Rattle.std.specs.Prelude.{◌≡◌, ℕ}
 use Rattle.std.proofs.Common.{subst}
 use Rattle.air_field.specs.Ring.{CommRing, AlgebraOver}
@@ -15,25 +15,25 @@ use Rattle.air_symbolic.specs.laws.Pools.{pool_laws, Grown-under, has-kept, mean
 use Rattle.air_symbolic.specs.ExtPool.{ExtNodes, BaseHas, BaseMeans}
 
 module _ {F EF : Type 0} {r : CommRing F} {over : AlgebraOver F EF} {basis : Basis F EF} {n : ℕ} (laws : ExtensionLaws r over basis n) where
-  -- what an extension pool keeps as a ring of expressions
+  -- an extension pool is a ring of expressions
   pub ext_pool_laws : AlgebraLaws (IsPool (ext_reads basis)) (PoolHas (ext_reads basis))
       (PoolMeans (ext_reads basis) r) (Grown ext_grows (ext_reads basis)) PoolRefuses
   ext_pool_laws = pool_laws r (ext_reads basis) ext_grows no_base_nodes (ext_leaf_laws laws)
 
-  -- where the base pool was lent and has grown, the extension pool has grown
+  -- if the base pool was borrowed and has grown, the extension pool has grown
   pub base_lent : (p : ExtNodes F EF) (u : BaseNodes F) → ext_grows p.base u → Grown ext_grows (ext_reads basis) p (on_base p u)
   base_lent p u g = Grown-under r (ext_reads basis) ext_grows no_base_nodes (ext_leaf_laws laws) p u g
 
-  -- the same of what was lent, which is the base pool
+  -- `base_lent` for a borrowed value equal to the base pool
   pub base_lent_from : (p : ExtNodes F EF) (lent u : BaseNodes F) → lent ≡ p.base → ext_grows lent u → Grown ext_grows (ext_reads basis) p (on_base p u)
   base_lent_from p lent u e g = base_lent p u (subst (λ (l : BaseNodes F). ext_grows l u) e g)
 
--- where the extension pool has grown, its base pool has
+-- if the extension pool has grown, its base pool has grown
 pub base_grown : {F EF : Type 0} (basis : Basis F EF) (p q : ExtNodes F EF) → Grown ext_grows (ext_reads basis) p q → Grown base_grows base_reads p.base q.base
 base_grown basis p q g = g.base
 
 module _ {F EF : Type 0} (r : CommRing F) (basis : Basis F EF) where
-  -- what was of the base pool still is, and means what it meant
+  -- numbers of the base pool stay in it and keep their meaning
   pub ext_keeps_base : ExtAlgebraLaws (IsPool (ext_reads basis)) (BaseHas basis) (BaseMeans r basis)
       (Grown ext_grows (ext_reads basis))
   ext_keeps_base = record {

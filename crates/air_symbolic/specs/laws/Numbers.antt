@@ -1,4 +1,4 @@
--- What a number of a pool keeps as nodes are added, and as what lies under them grows.
+-- Properties of a pool's numbers that stay as nodes are added and as the base grows.
 use Rattle.std.proofs.Common.{◌≡◌, ℕ, zero, suc, ◌+◌, ◌<◌, ◌≤◌, max, List, [], ◌∷◌, ◌++◌, length, take, drop, get_or, refl, sym, ap, ap₂, subst, ◌∙◌, arith, ◌⊎◌, inl, inr, ⊎_elim}
 use Rattle.std.specs.Prelude.{Option, None, Some, slice_get, option_map}
 use Rattle.std.proofs.Math.ListN.{length-append}
@@ -19,7 +19,7 @@ module _ {N : Type 0} where
   Some-is : {x y : N} → Some x ≡ Some y → x ≡ y
   Some-is e = cc
 
-  -- what stands at a place of a list with one element more
+  -- the element at an index of a list with one element appended
   pub at_pushed : (xs : List N) (x k : N) (i : ℕ) → slice_get (xs ++ x ∷ []) i ≡ Some k → (slice_get xs i ≡ Some k) ⊎ ((i ≡ length xs) × (x ≡ k))
   at_pushed [] x k zero e = inr (refl, Some-is e)
   at_pushed [] x k (suc i) e = absurd (cc)
@@ -27,22 +27,22 @@ module _ {N : Type 0} where
   at_pushed (y ∷ xs) x k (suc i) e =
       ⊎_elim (λ (h : slice_get xs i ≡ Some k). inl h) (λ (h : (i ≡ length xs) × (x ≡ k)). inr (ap suc h.0, h.1)) (at_pushed xs x k i e)
 
-  -- each place has an element
+  -- each index below the length has an element
   pub element_at : (xs : List N) (i : ℕ) → i < length xs → (x : N) × (slice_get xs i ≡ Some x)
   element_at [] i h = absurd (omega (arith, h))
   element_at (x ∷ xs) zero h = (x, refl)
   element_at (x ∷ xs) (suc i) h = element_at xs i (omega (arith, h))
 
-  -- the list as what is before a place, its element, and what is behind
+  -- the list as the elements before an index, the element there, and those after it
   parted_at : (xs : List N) (i : ℕ) (x : N) → slice_get xs i ≡ Some x → xs ≡ (take i xs ++ x ∷ []) ++ drop (suc i) xs
   parted_at [] i x e = absurd (cc)
   parted_at (y ∷ ys) zero x e = ap (λ z. z ∷ ys) (Some-is e)
   parted_at (y ∷ ys) (suc i) x e = ap (λ zs. y ∷ zs) (parted_at ys i x e)
 
--- ---- What is made of nodes in turn
+-- ---- The results of a step for nodes in order
 
 module _ {A T : Type 0} (none : T) (step : (ℕ → T) → SymbolicExpr A → T) where
-  -- what is made of number i
+  -- the result for number i
   abbrev pub made_at : List (SymbolicExpr A) → ℕ → T
   made_at ns i = get_or (in_turn none step [] ns) i none
 
@@ -62,7 +62,7 @@ module _ {A T : Type 0} (none : T) (step : (ℕ → T) → SymbolicExpr A → T)
       let made = step (λ i. get_or before i none) n ∷ [] in
       in_turn-kept (before ++ made) ns i (omega (arith, h, length-append before made)) ∙ get_or_append_left before made none i h
 
-  -- further nodes change nothing of earlier numbers
+  -- further nodes don't change the results for earlier numbers
   pub made-kept : (old more : List (SymbolicExpr A)) (i : ℕ) → i < length old → made_at (old ++ more) i ≡ made_at old i
   made-kept old more i h =
       ap (λ l. get_or l i none) (in_turn-append [] old more) ∙ in_turn-kept (in_turn none step [] old) more i (omega (arith, h, length-in_turn [] old))
@@ -72,12 +72,12 @@ module _ {A T : Type 0} (none : T) (step : (ℕ → T) → SymbolicExpr A → T)
       ap (λ l. get_or l (length older) none) (in_turn-append [] older (n ∷ []))
       ∙ get_or_push (in_turn none step [] older) (step (made_at older) n) none (length older) (omega (arith, length-in_turn [] older))
 
-  -- a number before i is what it is among the nodes before i
+  -- the result for a number below i needs only the nodes before i
   pub made-before : (ns : List (SymbolicExpr A)) (i x : ℕ) → x < i → i ≤ length ns → made_at (take i ns) x ≡ made_at ns x
   made-before ns i x h b =
       sym (made-kept (take i ns) (drop i ns) x (omega (arith, h, length-take-le i ns b))) ∙ ap (λ l. made_at l x) (take-append-drop i ns)
 
-  -- number i is made of its node, from what is made of those before it
+  -- the result for number i is the step of its node, over the results before it
   pub made-node : (ns : List (SymbolicExpr A)) (i : ℕ) (n : SymbolicExpr A) → slice_get ns i ≡ Some n → made_at ns i ≡ step (made_at (take i ns)) n
   made-node ns i n e =
       let here : length (take i ns) ≡ i = length-take-le i ns (omega (arith, slice_get_within ns i n e)) in
@@ -101,7 +101,7 @@ tree_of-before = made-before None unfold_node
 pub tree_of-node : {A : Type 0} (ns : List (SymbolicExpr A)) (i : ℕ) (n : SymbolicExpr A) → slice_get ns i ≡ Some n → tree_of ns i ≡ unfold_node (tree_of (take i ns)) n
 tree_of-node = made-node None unfold_node
 
--- Of two valid trees one is made, whose term is made of theirs.
+-- Two valid trees make a valid tree, whose term is made from theirs.
 module _ {A : Type 0} (valid : A → Type 0) where
   pub both-valid : (node : Tree A → Tree A → Tree A)
       → ((t u : Tree A) → AllValid valid t → AllValid valid u → AllValid valid (node t u))
@@ -126,7 +126,7 @@ module _ {A : Type 0} (valid : A → Type 0) where
     negative-term (Some t) h = refl
     negative-term None h = absurd h
 
-  -- a valid tree is there
+  -- a valid optional tree is Some tree
   pub tree_there : (o : Option (Tree A)) → IsValidTree valid o → (t : Tree A) × (o ≡ Some t)
   tree_there (Some t) h = (t, refl)
   tree_there None h = absurd h
@@ -141,7 +141,7 @@ module _ {A F : Type 0} (l : Leaves A F) where
   node_valid older ih (Neg x d) h = negative-valid l.valid (tree_of older x) (ih x h.0)
   node_valid older ih (Mul x y d) h = both-valid l.valid mul_tree (λ t u p q. (p, q)) (tree_of older x) (tree_of older y) (ih x h.0) (ih y h.1)
 
-  -- so the term of a node is made of its operands' terms
+  -- so the term of a node is made from its operands' terms
   pub unfold_node-term : (ns : List (SymbolicExpr A)) → ((i : ℕ) → i < length ns → IsValidTree l.valid (tree_of ns i))
       → (n : SymbolicExpr A) → NodeFits l ns n → term_of l.term (unfold_node (tree_of ns) n) ≡ node_term l.term (λ i. term_of l.term (tree_of ns i)) n
   unfold_node-term ns valid (Leaf a) h = refl
@@ -164,7 +164,7 @@ module _ {A F : Type 0} (l : Leaves A F) where
   pub tree_of-valid : (ns : List (SymbolicExpr A)) → WellFormed l ns → (i : ℕ) → i < length ns → IsValidTree l.valid (tree_of ns i)
   tree_of-valid ns wf i b = valid_below ns wf (i + 1) i (omega arith) b
 
--- What m keeps of l's leaves is kept along a tree, and nodes stay well formed.
+-- If m agrees with l on valid leaves, they agree on trees, and nodes stay well formed.
 module _ {A F : Type 0} (l m : Leaves A F) (k : Keeps l m) where
   tree_term-kept : (t : Tree A) → AllValid l.valid t → tree_term m.term t ≡ tree_term l.term t
   tree_term-kept (leaf_tree a) h = k.term a h
@@ -177,7 +177,7 @@ module _ {A F : Type 0} (l m : Leaves A F) (k : Keeps l m) where
   term_of-kept (Some t) h = tree_term-kept t h
   term_of-kept None h = absurd h
 
-  -- of nodes whose trees are valid
+  -- for nodes whose trees are valid
   module _ (ns : List (SymbolicExpr A)) (whole : (i : ℕ) → i < length ns → IsValidTree l.valid (tree_of ns i)) where
     cached_degree-kept : (i : ℕ) → i < length ns → cached_degree l ns i ≡ cached_degree m ns i
     cached_degree-kept i b = ap (degree_by cached_weight) (sym (term_of-kept (tree_of ns i) (whole i b)))
@@ -203,7 +203,7 @@ module _ {A F : Type 0} (l m : Leaves A F) (k : Keeps l m) where
 pub WellFormed-none : {A F : Type 0} (l : Leaves A F) → WellFormed l []
 WellFormed-none l = record { fits = λ i n e. absurd (cc); once = λ i j n e. absurd (cc) }
 
--- One node more, which fits and is new.
+-- Appending a node that fits and is new.
 pub WellFormed-push : {A F : Type 0} (l : Leaves A F) (ns : List (SymbolicExpr A)) (n : SymbolicExpr A) → WellFormed l ns → NodeFits l ns n → ((i : ℕ) → slice_get ns i ≡ Some n → ⊥) → WellFormed l (ns ++ n ∷ [])
 WellFormed-push l ns n wf fits absent = record {
   fits = λ i m e.

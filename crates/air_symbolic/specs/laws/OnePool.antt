@@ -1,4 +1,4 @@
--- That a pool is one has at most one proof, so that a type may keep it.
+-- `IsPool` has at most one proof, so a type may keep it.
 use Rattle.std.specs.Prelude.{List}
 use Rattle.std.proofs.Props.{props}
 use Rattle.air_symbolic.specs.Leaves.{Leaves}

@@ -1,4 +1,4 @@
--- What a pool refuses of a part it refuses of the whole; want of memory it may always answer.
+-- If a pool allows an error for a part of a term, it allows it for the whole. It always allows `Memory`.
 use Rattle.std.specs.Prelude.{◌≡◌, ℕ, ◌≤◌}
 use Rattle.std.proofs.Common.{sym, subst, arith}
 use Rattle.std.proofs.Math.Nat.{le-max_left, le-max_right}
@@ -9,7 +9,7 @@ use Rattle.air_field.specs.declared.errors.RingError.{RingError}
 use Rattle.air_field.specs.declared.errors.RingError.TheVariants.{Memory, DegreeOverflow}
 use Rattle.air_symbolic.specs.PoolRefusals.{PoolRefuses}
 
--- a part has a degree that is no greater
+-- a part of a term has no greater degree
 Part-degree : {F : Type 0} (w : Leaf → ℕ) {t u : Term F} → Part t u → degree_by w t ≤ degree_by w u
 Part-degree w whole = omega arith
 Part-degree w (in_add_left {u = u} {v = v} p) = omega (arith, Part-degree w p, le-max_left (degree_by w u) (degree_by w v))

@@ -1,4 +1,4 @@
--- What a pool keeps as it grows.
+-- Properties of a pool that stay as it grows.
 use Rattle.std.proofs.Common.{◌≡◌, ℕ, ◌<◌, [], ◌++◌, length, refl, sym, ap, subst, ◌∙◌, ◌∷◌, arith, append_assoc, append-nil}
 use Rattle.std.specs.Prelude.{Some, slice_get}
 use Rattle.std.proofs.Math.ListN.{length-append}
@@ -26,7 +26,7 @@ module _ {U A F : Type 0} (r : CommRing F) (reads : U → Leaves A F) (grows : U
     pool = λ (w : IsPool reads p). k.pool (h.pool w);
   }
 
-  -- what lies under the nodes grows
+  -- the base grows
   pub Grown-under : (p : Pool U A) (u : U) → grows p.base u → Grown grows reads p (on_base p u)
   Grown-under p u g = record {
     base = g;
@@ -37,7 +37,7 @@ module _ {U A F : Type 0} (r : CommRing F) (reads : U → Leaves A F) (grows : U
     };
   }
 
-  -- one node more, which fits and is new
+  -- appending a node that fits and is new
   pub Grown-push : (p : Pool U A) (n : SymbolicExpr A) → NodeFits (reads p.base) p.nodes n → ((i : ℕ) → slice_get p.nodes i ≡ Some n → ⊥) → Grown grows reads p (record { base = p.base; nodes = p.nodes ++ n ∷ [] })
   Grown-push p n fits absent = record {
     base = laws.same p.base;
@@ -69,7 +69,7 @@ module _ {U A F : Type 0} (r : CommRing F) (reads : U → Leaves A F) (grows : U
     simplifies = subst (λ x. Simplifies r x t) (sym (term-kept p q i g record { pool = h.pool; here = h.here })) h.simplifies;
   }
 
-  -- what a pool keeps as a ring of expressions
+  -- a pool is a ring of expressions
   pub pool_laws : AlgebraLaws (IsPool reads) (PoolHas reads) (PoolMeans reads r) (Grown grows reads) PoolRefuses
   pool_laws = record {
     refuses_whole = PoolRefuses-whole;

@@ -1,4 +1,4 @@
--- The node of each number, and that no tree has two numbers.
+-- The node of each number; no tree has two numbers.
 use Rattle.std.proofs.Common.{◌≡◌, ℕ, zero, suc, ◌+◌, ◌<◌, ◌≤◌, max, List, length, take, refl, sym, ap, ap₂, ◌∙◌, arith}
 use Rattle.std.specs.Prelude.{Option, Some, slice_get, unwrap_or, option_map}
 use Rattle.std.proofs.lemmas.List.{length-take-le}
@@ -20,7 +20,7 @@ module _ {A F : Type 0} (l : Leaves A F) where
   stated-is ns (Neg x d) h = sym h.1
   stated-is ns (Mul x y d) h = sym h.2
 
-  -- A node that fits those before place i, said of all nodes.
+  -- A node that fits the nodes before index i, stated for all nodes.
   module _ (ns : List (SymbolicExpr A)) (i : ℕ) (within : i ≤ length ns) where
     below : (x : ℕ) → x < length (take i ns) → x < i
     below x h = omega (arith, h, length-take-le i ns within)
@@ -52,7 +52,7 @@ module _ {A F : Type 0} (l : Leaves A F) where
     operands-below (Neg x d) h = below x h.0
     operands-below (Mul x y d) h = (below x h.0, below y h.1)
 
-  -- the node that stands at a number is the number's node
+  -- the node at index i is the node of number i
   pub node_at-is : (ns : List (SymbolicExpr A)) → WellFormed l ns → (i : ℕ) (n : SymbolicExpr A) → slice_get ns i ≡ Some n → IsNode l ns i n
   node_at-is ns wf i n e =
       let within : i ≤ length ns = omega (arith, slice_get_within ns i n e) in
@@ -72,7 +72,7 @@ module _ {A F : Type 0} (l : Leaves A F) where
   pub found : (ns : List (SymbolicExpr A)) → WellFormed l ns → (i : ℕ) → i < length ns → (n : SymbolicExpr A) × IsNode l ns i n
   found ns wf i b = let f = element_at ns i b in (f.0, node_at-is ns wf i f.0 f.1)
 
-  -- ---- The tree of a node over trees that are there
+  -- ---- The tree of a node over given trees
 
   abbrev node_tree : (ℕ → Tree A) → SymbolicExpr A → Tree A
   node_tree at (Leaf a) = leaf_tree a
@@ -81,7 +81,7 @@ module _ {A F : Type 0} (l : Leaves A F) where
   node_tree at (Neg x d) = neg_tree (at x)
   node_tree at (Mul x y d) = mul_tree (at x) (at y)
 
-  -- the trees of numbers, z where there is none; of fitting nodes each is there
+  -- the trees of numbers, z for missing ones; for fitting nodes none is missing
   module _ (ns : List (SymbolicExpr A)) (wf : WellFormed l ns) (z : Tree A) where
     abbrev there_at : ℕ → Tree A
     there_at i = unwrap_or (tree_of ns i) z
@@ -102,7 +102,7 @@ module _ {A F : Type 0} (l : Leaves A F) where
   Some-is : {t u : Tree A} → Some t ≡ Some u → t ≡ u
   Some-is e = cc
 
-  -- fitting nodes of one tree are one, where the trees of the first one's operands have one number each
+  -- fitting nodes with equal trees are equal, if the trees of the first one's operands have one number each
   same_node : (ns : List (SymbolicExpr A)) (i : ℕ) (at : ℕ → Tree A)
       → ((x y : ℕ) → x < i → x < length ns → y < length ns → at x ≡ at y → x ≡ y) → (n m : SymbolicExpr A) → OperandsBelow i n
       → NodeFits l ns n → NodeFits l ns m → node_tree at n ≡ node_tree at m → n ≡ m

@@ -1,4 +1,4 @@
--- Trees of extension expressions whose whole trees are one are one.
+-- Trees of extension expressions are equal if their whole trees are.
 use Rattle.std.proofs.Common.{◌≡◌, ℕ, ap, refl, Option, Some, None}
 use Rattle.std.specs.Prelude.{option_map}
 use Rattle.air_field.specs.Ring.{CommRing}
@@ -41,7 +41,7 @@ module _ {F EF : Type 0} (u : BaseNodes F) where
   same_whole_tree (Some t) None h k e = absurd k
   same_whole_tree None v h k e = absurd h
 
--- A whole tree stays while the base pool grows.
+-- A whole tree stays as the base pool grows.
 module _ {F EF : Type 0} (r : CommRing F) (u v : BaseNodes F) (g : ext_grows u v) where
   tree-kept-whole : (t : Tree (ExtLeaf F EF)) → AllValid (ext_valid u) t → whole_tree v t ≡ whole_tree u t
   tree-kept-whole (leaf_tree (Base i)) h =

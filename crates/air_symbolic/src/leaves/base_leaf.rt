@@ -8,7 +8,7 @@ use air_core::SymbolicVariable;
 use air_field::{Field, RingError};
 use std::alloc::Global;
 
-/// A leaf of a base expression: a variable, a selector of rows, or a constant.
+/// A leaf of a base expression: a variable, a row selector, or a constant.
 #[derive(Clone, Copy, Debug, PartialEq, Eq, PartialOrd, Ord)]
 pub enum BaseLeaf<F> {
     Variable(SymbolicVariable<F>),

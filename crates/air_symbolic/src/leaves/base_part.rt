@@ -1,9 +1,9 @@
-//! The elements of an extension that are in the base field.
+//! The elements of an extension that lie in the base field.
 ghost use Rattle.std.specs.Prelude.{◌≡◌};
 
 use air_field::{ExtensionField, Field};
 
-/// The element of the base field that `c` is, if it is one: its first coefficient, where all others are zero.
+/// The element of the base field that equals `c`, if there is one: the first coefficient, if all others are zero.
 pub fn base_part<F: Field, EF: ExtensionField<F>>(c: &EF) -> Option<F>
     ensures { result ≡ EF.basis.base_part c.now }
 {

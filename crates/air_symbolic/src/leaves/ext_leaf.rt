@@ -11,7 +11,7 @@ use air_core::SymbolicVariableExt;
 use air_field::{ExtensionField, Field, RingError};
 use std::alloc::Global;
 
-/// A leaf of an extension expression: an expression of the base pool that lies under it, an extension variable, or a
+/// A leaf of an extension expression: an expression of the extension pool's base pool, an extension variable, or a
 /// constant of the extension.
 #[derive(Clone, Copy, Debug, PartialEq, Eq, PartialOrd, Ord)]
 pub enum ExtLeaf<F, EF> {

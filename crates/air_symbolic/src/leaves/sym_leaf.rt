@@ -1,4 +1,4 @@
-//! What a leaf of an expression has to tell.
+//! The interface of leaves.
 ghost use Rattle.std.specs.Prelude.{◌≡◌, ℕ, ◌≤◌, ◌<◌, ◌^◌, List, Result, IfOk, IfErr, ◌↔◌, true};
 ghost use Rattle.air_field.specs.Degree.{degree_by, cached_weight, transition_weight, trace_weight};
 ghost use Rattle.air_symbolic.specs.Leaves.{Leaves, LeafLaws, IsConstLeaf};
@@ -12,30 +12,30 @@ use air_field::{Field, RingError};
 use std::alloc::Global;
 use std::fmt::Debug;
 
-/// A leaf of an expression, which may name something in what lies under the pool.
+/// A leaf of an expression. It may name something in the pool's base.
 pub trait SymLeaf: Copy + Eq + Ord + Debug {
     /// The field of the constants.
     type F: Field;
 
-    /// What lies under a pool of such leaves.
+    /// The base of a pool of such leaves.
     type Base: Drop;
 
-    /// What the leaves mean over what lies under them.
+    /// What the leaves mean over a base.
     ghost reads: { Self.Base → Leaves Self Self.F };
 
-    /// What lies under the leaves has grown: what was named there stays.
+    /// The base has grown: what leaves name in it stays.
     ghost grows: { Self.Base → Self.Base → Type 0 };
 
-    /// How many nodes lie under the pool.
+    /// The number of nodes in the base.
     ghost base_length: { Self.Base → ℕ };
 
-    /// The list holds, for each number of what lies under the pool, its degree by this weight.
+    /// The list holds, for each number of the base, its degree by this weight.
     ghost has_degrees: { Self.Base → LeafWeight → List (Result ℕ RingError) → Type 0 };
 
-    /// What lies under a new pool.
+    /// The base of a new pool.
     ghost empty_base: { Self.Base };
 
-    /// What lies under a new pool, without nodes.
+    /// The base of a new pool, without nodes.
     fn new_base(alloc: Global) -> Self::Base
         ensures { result ≡ empty_base };
 
@@ -44,13 +44,13 @@ pub trait SymLeaf: Copy + Eq + Ord + Debug {
         requires { (reads base.now).valid self.now }
         ensures { result ≡ degree_by cached_weight ((reads base.now).term self.now) };
 
-    /// The constant that the leaf is, to simplify by.
+    /// The constant that the leaf equals, which the simplified operations use.
     fn as_const(&self, base: &Self::Base) -> Option<Self::F>
         requires { (reads base.now).valid self.now }
         ensures { result ≡ (reads base.now).constant self.now };
 
-    /// The degree that nodes state, with the weight `weight` for the transition selector. It is refused with
-    /// `DegreeOverflow` only where it passes `usize`, and otherwise only for want of memory.
+    /// The degree that nodes state, with the weight `weight` for the transition selector. Fails with `DegreeOverflow`
+    /// only if it exceeds `usize`, or with `Memory`.
     fn degree_multiple_with_transition(
         &self,
         weight: usize,
@@ -61,7 +61,7 @@ pub trait SymLeaf: Copy + Eq + Ord + Debug {
             ((reads base.now).term self.now)) result };
 
     /// The degree of the leaf's polynomial over `trace_len` rows; `periods` holds the lengths of the periodic columns.
-    /// It is refused with `DegreeOverflow` only where it passes `usize`, and otherwise only for want of memory.
+    /// Fails with `DegreeOverflow` only if it exceeds `usize`, or with `Memory`.
     fn poly_degree(
         &self,
         trace_len: usize,
@@ -72,7 +72,7 @@ pub trait SymLeaf: Copy + Eq + Ord + Debug {
         ensures { AnswersDegree (degree_by (trace_weight trace_len periods.now)
             ((reads base.now).term self.now)) result };
 
-    /// The degrees of what lies under the pool, each worked out once for all leaves that name it: one turn a node.
+    /// The degrees of the base's nodes, each computed once for all leaves that name it. Takes one turn for each node.
     fn degrees_of_base(
         base: &Self::Base,
         weight: LeafWeight<'_>,
@@ -84,9 +84,9 @@ pub trait SymLeaf: Copy + Eq + Ord + Debug {
         ensures few { IfOk result (λ t. t.turns < 2 ^ 64) }
         ensures refused { IfErr result (λ e. e ≡ RingError.Memory) };
 
-    /// The degree by a weight. Where the leaf names something that lies under the pool it is read from `table`, which
-    /// must hold the degrees of what lies there by the same weight. It is refused with `DegreeOverflow` only where it
-    /// passes `usize`, and otherwise only for want of memory.
+    /// The degree by a weight. If the leaf names something in the base, the degree is read from `table`, which must
+    /// hold the base's degrees by the same weight. Fails with `DegreeOverflow` only if the degree exceeds `usize`, or
+    /// with `Memory`.
     fn degree_in(
         &self,
         weight: LeafWeight<'_>,

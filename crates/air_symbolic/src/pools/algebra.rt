@@ -1,4 +1,4 @@
-//! A pool as a ring that makes its elements.
+//! A pool as a ring whose elements are made by calls.
 
 use crate::leaves::sym_leaf::SymLeaf;
 use crate::pools::expr::ExprId;

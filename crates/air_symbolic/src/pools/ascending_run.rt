@@ -1,4 +1,4 @@
-//! Keys that ascend, each with its number.
+//! Ascending keys, each with its number.
 ghost use Rattle.std.specs.Prelude.{◌≡◌, ◌↔◌, ◌++◌, [], ◌∷◌, IsTrue, IfOk, OnOk, OnErr};
 ghost use Rattle.std.specs.BTreeMap.{is_at};
 ghost use Rattle.std.specs.Map.{lookup};
@@ -7,10 +7,10 @@ ghost use Rattle.air_symbolic.specs.Runs.{IsBelow};
 use std::alloc::{AllocError, Global};
 use std::marker::Model;
 
-// How many keys a run has room for from the first one on.
+// The number of keys that a new run has room for.
 const FIRST_KEYS: usize = 8;
 
-/// Keys that ascend, each with its number. One is found by halving; only a key beyond all others is added, at the end.
+/// Ascending keys, each with its number. Keys are found by binary search; only a key above all others can be added.
 #[derive(Drop)]
 pub struct AscendingRun<K: Copy + Ord> {
     pairs: Vec<(K, usize)>,
@@ -28,7 +28,7 @@ impl<K: Copy + Ord> Model for AscendingRun<K> {
 }
 
 impl<K: Copy + Ord> AscendingRun<K> {
-    /// A run without keys, which has room for the first few.
+    /// A run without keys, with room for the first few.
     pub fn new(alloc: Global) -> Result<Self, AllocError>
         ensures { IfOk result (λ run. run ≡ []) }
     {
@@ -50,7 +50,7 @@ impl<K: Copy + Ord> AscendingRun<K> {
     pub fn find(&self, key: K) -> Option<usize>
         ensures { result ≡ lookup (is_at (K.cmp key)) self.now }
     {
-        // new nodes mostly name new ones, so most keys that aren't there are beyond all that are
+        // New nodes mostly name new ones, so most keys that are missing are above all keys of the run.
         if self.is_below(key) {
             return None;
         }
@@ -60,7 +60,7 @@ impl<K: Copy + Ord> AscendingRun<K> {
         }
     }
 
-    /// A key beyond all others, and its number. Where memory is refused, nothing has changed.
+    /// Adds a key above all others, and its number. On failure the run is unchanged.
     pub fn push(&mut self, key: K, number: usize) -> Result<(), AllocError>
         requires below { IsBelow K.cmp self.old key }
         ensures pushed { OnOk result (self.new ≡ self.old ++ (key, number) ∷ []) }

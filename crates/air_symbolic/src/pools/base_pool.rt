@@ -13,9 +13,9 @@ use crate::pools::pool::ExprPool;
 use air_core::{BaseEntry, SymbolicVariable};
 use air_field::{Field, FromVar, RingError};
 
-// The place of a leaf in the memory of `leaf_at`. Columns of both rows interleave, public values and periodic columns
-// begin halfway, and the selectors have the last three places; leaves that share one cost a search of the map and
-// nothing else.
+// The index of a leaf in the cache of `leaf_at`. Columns of both rows interleave, public values and periodic columns
+// begin halfway, and the selectors have the last three indexes. Leaves that share an index only cost a search of the
+// tables.
 fn place_of<F>(a: &BaseLeaf<F>) -> usize {
     match a {
         BaseLeaf::Variable(v) => match v.entry {

@@ -1,4 +1,4 @@
-//! The degrees of a pool's nodes by number, each worked out once.
+//! The degrees of a pool's nodes by number, each computed once.
 ghost use Rattle.std.specs.Prelude.{◌≡◌, ℕ, ◌<◌, ◌≤◌, ◌+◌, ◌^◌, max, length, OnOk, IfOk, IfErr};
 ghost use Rattle.air_field.specs.Degree.{degree_by};
 ghost use Rattle.air_symbolic.specs.Weights.{leaf_weight};
@@ -54,7 +54,7 @@ fn added_degree(
     }
 }
 
-// The degree of a node from those of its operands.
+// The degree of a node, computed from the degrees of its operands.
 fn degree_of_node<A: SymLeaf>(
     node: SymbolicExpr<A>,
     weight: LeafWeight<'_>,
@@ -79,7 +79,7 @@ fn degree_of_node<A: SymLeaf>(
 }
 
 impl<A: SymLeaf> ExprPool<A> {
-    // One turn: the degree of the next number is worked out from those of smaller numbers.
+    // One turn: computes the degree of the next number from those of smaller numbers.
     fn turn(
         &self,
         id: ExprId<A>,
@@ -107,8 +107,8 @@ impl<A: SymLeaf> ExprPool<A> {
         Ok(())
     }
 
-    /// The degrees of the first `count` numbers by the leaves' weights, from the least number up: a node's operands
-    /// have smaller numbers. `under` holds the degrees of what lies under the pool, whose turns aren't counted again.
+    /// The degrees of the first `count` numbers by the leaves' weights, in ascending order: a node's operands have
+    /// smaller numbers. `base` holds the degrees of the pool's base; its turns aren't counted again.
     pub(crate) fn table_over(
         &self,
         count: usize,
@@ -134,8 +134,7 @@ impl<A: SymLeaf> ExprPool<A> {
         Ok(table)
     }
 
-    /// The degrees of the first `count` numbers by the leaves' weights, and before them those of what lies under the
-    /// pool.
+    /// The degrees of the first `count` numbers by the leaves' weights, computed after those of the pool's base.
     pub(crate) fn degree_table(
         &self,
         count: usize,

@@ -28,7 +28,7 @@ impl<A: SymLeaf> ExprPool<A> {
         degree_at(&table.degrees, id)
     }
 
-    // The degrees that the roots' nodes state.
+    // The degrees stated by the roots' nodes.
     fn stated_degrees(&self, roots: &[ExprId<A>]) -> Result<Degrees, RingError>
         requires owed { FitsBase A.reads self.now }
         requires all_in { All (λ x. x < size self.now) roots.now }
@@ -70,8 +70,8 @@ impl<A: SymLeaf> ExprPool<A> {
         })
     }
 
-    /// The roots' degrees by the leaves' weights, from a table over that of what lies under the pool. The turns are this
-    /// pool's alone.
+    /// The roots' degrees by the leaves' weights, from a table built over the base's table. Counts only this pool's
+    /// turns.
     pub(crate) fn degrees_over(
         &self,
         roots: &[ExprId<A>],
@@ -91,7 +91,7 @@ impl<A: SymLeaf> ExprPool<A> {
         self.degrees_from(&table, roots)
     }
 
-    // The roots' degrees by the leaves' weights, all from one table.
+    // The roots' degrees by the leaves' weights, read from one table.
     fn table_degrees(
         &self,
         roots: &[ExprId<A>],
@@ -110,8 +110,8 @@ impl<A: SymLeaf> ExprPool<A> {
         self.degrees_from(&table, roots)
     }
 
-    /// The cached degree with the weight `weight` for the transition selector; it is refused with `DegreeOverflow`
-    /// only where it passes `usize`, and otherwise only for want of memory.
+    /// The cached degree with the weight `weight` for the transition selector. Fails with `DegreeOverflow` only if it
+    /// exceeds `usize`, or with `Memory`.
     pub fn degree_multiple_with_transition(
         &self,
         id: ExprId<A>,
@@ -126,8 +126,7 @@ impl<A: SymLeaf> ExprPool<A> {
     }
 
     /// The degree of the expression's polynomial over `trace_len` rows; `periods` holds the lengths of the periodic
-    /// columns. It is refused with `DegreeOverflow` only where it passes `usize`, and otherwise only for want of
-    /// memory.
+    /// columns. Fails with `DegreeOverflow` only if it exceeds `usize`, or with `Memory`.
     pub fn poly_degree(
         &self,
         id: ExprId<A>,
@@ -142,10 +141,9 @@ impl<A: SymLeaf> ExprPool<A> {
         self.root_degree(id, LeafWeight::Trace { trace_len, periods })
     }
 
-    /// The degree of each root by the leaves' weights. A cached degree is read and takes no turn; by another weight the
-    /// degree of each node of the pool, and of what lies under it, is worked out once, and these are the turns. It is
-    /// refused with `DegreeOverflow` only where the degree of some root passes `usize`, whatever nodes hold that no
-    /// root reaches; and otherwise only for want of memory.
+    /// The degree of each root by the leaves' weights. Cached degrees are read and take no turn. For other weights each
+    /// node of the pool and of its base takes one turn. Fails with `DegreeOverflow` only if the degree of some root
+    /// exceeds `usize`, whatever the degrees of nodes that no root reaches, or with `Memory`.
     pub fn degrees(&self, roots: &[ExprId<A>], weight: LeafWeight<'_>) -> Result<Degrees, RingError>
         requires owed { FitsBase A.reads self.now }
         requires all_in { All (λ x. x < size self.now) roots.now }

@@ -1,4 +1,4 @@
-//! Degrees of expressions of both pools.
+//! Degrees of expressions of an extension pool and its base pool.
 ghost use Rattle.std.specs.Prelude.{◌≡◌, ◌≢◌, ◌<◌, ◌⊎◌, map, All, IfOk, IfErr};
 ghost use Rattle.air_field.specs.Degree.{degree_by};
 ghost use Rattle.air_symbolic.specs.BaseLeaves.{base_reads};
@@ -15,8 +15,8 @@ use air_field::{ExtensionField, Field, RingError};
 
 impl<F: Field, EF: ExtensionField<F>> ExprPool<ExtLeaf<F, EF>> {
     /// The degrees, by the leaves' weights, of expressions of the base pool and of expressions of this one. Each node
-    /// of either pool is worked out once for all of them, and these are the turns. It is refused with `DegreeOverflow` only where the
-    /// degree of some root passes `usize`, and otherwise only for want of memory.
+    /// of either pool takes one turn. Fails with `DegreeOverflow` only if the degree of some root exceeds `usize`, or
+    /// with `Memory`.
     pub fn degrees_with_base(
         &self,
         base_roots: &[ExprId<BaseLeaf<F>>],

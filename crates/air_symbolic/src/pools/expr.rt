@@ -1,11 +1,11 @@
-//! The numbers of a pool's expressions, and its nodes.
+//! The numbers of a pool's expressions, and the pool's nodes.
 ghost use Rattle.std.specs.Prelude.{◌≡◌, ⊤};
 
 use std::alloc::AllocError;
 use std::marker::{Model, PhantomData};
 
-/// The number of an expression in a pool of leaves `A`. Inside one pool two numbers are equal exactly where their trees
-/// are. The calls of a pool take only its own numbers, as its `contains` tells.
+/// The number of an expression in a pool of leaves `A`. Two numbers of one pool are equal exactly if their trees are.
+/// The calls of a pool take only its own numbers, which `contains` tests.
 #[derive(Clone, Copy, Debug, PartialEq, Eq, PartialOrd, Ord)]
 pub struct ExprId<A> {
     number: usize,
@@ -32,7 +32,7 @@ impl<A: Copy> ExprId<A> {
         }
     }
 
-    /// The number itself, which is below the pool's length.
+    /// The number, which is below the pool's length.
     pub fn number(self) -> usize
         ensures { result ≡ self }
     {
@@ -40,7 +40,7 @@ impl<A: Copy> ExprId<A> {
     }
 }
 
-/// A node of a pool, which names its operands by their numbers and states its degree.
+/// A node of a pool. It gives its operands by number, and states its degree.
 #[derive(Copy, Debug, PartialEq, Eq, PartialOrd, Ord)]
 pub enum SymbolicExpr<A> {
     Leaf(A),
@@ -65,7 +65,7 @@ pub enum SymbolicExpr<A> {
     },
 }
 
-// By hand, since a derived one clones field by field.
+// By hand, because a derived one clones field by field.
 impl<A: Copy> Clone for SymbolicExpr<A> {
     ghost is_clone = { λ x y. y ≡ x };
 

@@ -35,7 +35,7 @@ impl<F: Field, EF: ExtensionField<F>> ExprPool<ExtLeaf<F, EF>> {
         self.leaf(ExtLeaf::ExtVariable(v))
     }
 
-    /// The expression of a constant of the extension, as a leaf of its own.
+    /// The expression of a constant of the extension, as a leaf.
     pub fn ext_constant(&mut self, c: EF) -> Result<ExprId<ExtLeaf<F, EF>>, RingError>
         requires { FitsBase (ext_reads EF.basis) self.old }
         ensures same_base { self.new.base ≡ self.old.base }
@@ -50,7 +50,7 @@ impl<F: Field, EF: ExtensionField<F>> ExprPool<ExtLeaf<F, EF>> {
         self.leaf(ExtLeaf::ExtConstant(c))
     }
 
-    /// The expression of an expression of the base pool, as a leaf that holds the whole of it.
+    /// The expression of a base expression, as a single leaf.
     pub fn lift(&mut self, x: ExprId<BaseLeaf<F>>) -> Result<ExprId<ExtLeaf<F, EF>>, RingError>
         requires owed { FitsBase (ext_reads EF.basis) self.old }
         requires here { x < size self.old.base }
@@ -67,7 +67,7 @@ impl<F: Field, EF: ExtensionField<F>> ExprPool<ExtLeaf<F, EF>> {
         self.leaf(ExtLeaf::Base(x))
     }
 
-    /// The base pool, handed over as it is.
+    /// The base pool, unchanged.
     pub fn into_base(self) -> ExprPool<BaseLeaf<F>>
         ensures base { result ≡ self.base }
         ensures pool { IsPool base_reads result }

@@ -1,4 +1,4 @@
-//! The calls that make a node as it is, without simplification. Where one is refused the pool is as it was.
+//! The calls that insert a node without simplification. On failure the pool is unchanged.
 ghost use Rattle.std.specs.Prelude.{◌≡◌, ℕ, ◌<◌, ◌≤◌, ◌+◌, ◌^◌, ◌↔◌, true, Some, MatchOption, IfOk, IfErr, OnErr, option_map};
 ghost use Rattle.std.specs.List.{slice_get};
 ghost use Rattle.air_field.specs.Degree.{degree_by, cached_weight};
@@ -14,15 +14,15 @@ use crate::pools::node_table::NodeTable;
 use crate::pools::pool::ExprPool;
 use air_field::RingError;
 
-// Whether an operand is the newest of so many nodes.
+// Whether an operand is the newest of `count` nodes.
 fn is_newest<A: Copy>(x: ExprId<A>, count: usize) -> bool
     ensures { result ≡ true → count ≡ x + 1 }
 {
     count.checked_sub(1) == Some(x.number())
 }
 
-// Whether a node names the newest number. Then the pool can't have it yet, since operands are older than their node,
-// and the search is spared.
+// Whether a node has the newest number as an operand. Then the pool can't have the node yet, since operands are older
+// than their node, and the search can be skipped.
 fn names_newest<A: SymLeaf>(node: &SymbolicExpr<A>, count: usize) -> bool
     ensures { result ≡ true → (i : ℕ) → i < count → OperandsBelow i node.now → ⊥ }
 {
@@ -35,7 +35,8 @@ fn names_newest<A: SymLeaf>(node: &SymbolicExpr<A>, count: usize) -> bool
     }
 }
 
-// The number of a node, if it is there, of whatever degree; the map is not asked for one that names the newest.
+// The number of an equal node, whatever degree it states. The tables aren't searched if an operand is the newest
+// number.
 fn number_of<A: SymLeaf>(nodes: &NodeTable<A>, node: &SymbolicExpr<A>) -> Option<usize>
     requires older { (i : ℕ) (n : SymbolicExpr A) → slice_get nodes.now i ≡ Some n → OperandsBelow i
         n }
@@ -48,7 +49,7 @@ fn number_of<A: SymLeaf>(nodes: &NodeTable<A>, node: &SymbolicExpr<A>) -> Option
 }
 
 impl<A: SymLeaf> ExprPool<A> {
-    // The number of the equal node if there is one, else of a new node: each expression is held once.
+    // The number of the equal node if there is one, else of a new node: the pool holds each expression only once.
     pub(crate) fn insert(&mut self, node: SymbolicExpr<A>) -> Result<ExprId<A>, RingError>
         requires owed { FitsBase A.reads self.old }
         requires fits { NodeFits (A.reads self.old.base) self.old.nodes node }
@@ -68,7 +69,7 @@ impl<A: SymLeaf> ExprPool<A> {
         }
     }
 
-    /// The expression of a leaf, which must name nothing but what lies under this pool.
+    /// The expression of a leaf, which must be valid over this pool's base.
     pub fn leaf(&mut self, a: A) -> Result<ExprId<A>, RingError>
         requires owed { FitsBase A.reads self.old }
         requires valid { (A.reads self.old.base).valid a }
@@ -81,7 +82,8 @@ impl<A: SymLeaf> ExprPool<A> {
         self.insert(SymbolicExpr::Leaf(a))
     }
 
-    // `leaf`, behind a memory of 256 places: columns are read in every constraint, and this spares the map's search.
+    // `leaf` with a cache of 256 numbers: columns are read in every constraint, and a hit saves the search of the
+    // tables.
     pub(crate) fn leaf_at(&mut self, place: usize, a: A) -> Result<ExprId<A>, RingError>
         requires owed { FitsBase A.reads self.old }
         requires valid { (A.reads self.old.base).valid a }
@@ -154,8 +156,8 @@ impl<A: SymLeaf> ExprPool<A> {
         self.insert(SymbolicExpr::Neg { x, degree_multiple })
     }
 
-    /// The product, not simplified. It is refused with `DegreeOverflow` exactly where the operands' degrees add past
-    /// `usize`.
+    /// The product, not simplified. Fails with `DegreeOverflow` exactly if the sum of the operands' degrees exceeds
+    /// `usize`, or with `Memory`.
     pub fn insert_mul(&mut self, x: ExprId<A>, y: ExprId<A>) -> Result<ExprId<A>, RingError>
         requires owed { FitsBase A.reads self.old }
         requires x_in { x < size self.old }

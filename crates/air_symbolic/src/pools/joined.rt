@@ -12,7 +12,7 @@ use crate::pools::pool::ExprPool;
 use air_field::{Field, RingError};
 
 impl<A: SymLeaf> ExprPool<A> {
-    /// The sum, simplified step by step from the left; of none, 0. It refuses for want of memory alone.
+    /// The sum, simplified step by step from the left; 0 for the empty list.
     pub fn sum(&mut self, xs: &[ExprId<A>]) -> Result<ExprId<A>, RingError>
         requires owed { FitsBase A.reads self.old }
         requires all_in { All (λ x. x < size self.old) xs.now }
@@ -33,8 +33,8 @@ impl<A: SymLeaf> ExprPool<A> {
         Ok(total)
     }
 
-    /// The product, simplified step by step from the left; of none, 1. It is refused with `DegreeOverflow` only where a
-    /// step needs a node and the degrees add past `usize`, and always there unless memory is wanting before.
+    /// The product, simplified step by step from the left; 1 for the empty list. Fails with `DegreeOverflow` only if a
+    /// step needs a node and the sum of its degrees exceeds `usize`, and then it never succeeds; or with `Memory`.
     pub fn product(&mut self, xs: &[ExprId<A>]) -> Result<ExprId<A>, RingError>
         requires owed { FitsBase A.reads self.old }
         requires all_in { All (λ x. x < size self.old) xs.now }

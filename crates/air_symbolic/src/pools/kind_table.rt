@@ -9,12 +9,12 @@ use crate::pools::ascending_run::AscendingRun;
 use std::alloc::{AllocError, Global};
 use std::collections::BTreeMap;
 
-// How many runs a table has at most. What is numbered mostly comes in few sequences that interleave, as the columns of
-// this row and of the next one do.
+// The greatest number of runs in a table. Keys mostly come in a few interleaved sequences, such as the columns of this
+// row and of the next one.
 const RUNS: usize = 4;
 
-/// The numbers of nodes, each by a key that tells it from the others of its kind. A key goes to the end of the first run
-/// whose keys are all below it; if there is none, it begins a run, or goes into an ordered map once there are `RUNS`.
+/// The numbers of nodes of one kind, by keys that distinguish them. A key goes to the end of the first run whose keys
+/// are all below it. If there is none, it begins a new run, or goes into an ordered map once there are `RUNS` runs.
 #[derive(Drop)]
 pub struct KindTable<K: Copy + Ord> {
     pub(crate) runs: Vec<AscendingRun<K>>,
@@ -22,7 +22,7 @@ pub struct KindTable<K: Copy + Ord> {
 }
 
 impl<K: Copy + Ord> KindTable<K> {
-    /// A table without numbers. It takes no memory.
+    /// A table without numbers. Allocates nothing.
     pub fn new(alloc: Global) -> Self
         ensures { (k : K) → numbers_by K.cmp result k ≡ None }
     {
@@ -44,7 +44,7 @@ impl<K: Copy + Ord> KindTable<K> {
         self.rest.get(&key).copied()
     }
 
-    /// Gives a key that has none a number. Where memory is refused, nothing has changed.
+    /// Gives a number to a key that has none. On failure the table finds what it found before.
     pub fn enter(&mut self, key: K, number: usize) -> Result<(), AllocError>
         requires exact { (k : K) → K.cmp key k ≡ Equal → key ≡ k }
         ensures entered { OnOk result (numbers_by K.cmp self.old key ≡ None →
@@ -65,7 +65,7 @@ impl<K: Copy + Ord> KindTable<K> {
     }
 }
 
-/// A run whose keys are all below this one.
+/// The index of a run whose keys are all below this one.
 fn run_below<K: Copy + Ord>(runs: &[AscendingRun<K>], key: K) -> Option<usize>
     ensures { IfSome result (λ i. (run : List (K × ℕ))
         × (slice_get runs.now i ≡ Some run) × IsBelow K.cmp run key) }

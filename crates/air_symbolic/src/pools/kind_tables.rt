@@ -8,8 +8,8 @@ use crate::pools::expr::SymbolicExpr;
 use crate::pools::kind_table::KindTable;
 use std::alloc::{AllocError, Global};
 
-/// A table of numbers for each kind of node, by what a node is made of: its leaf, or the numbers of its operands. These
-/// determine its degree, so no key holds it.
+/// A table of numbers for each kind of node. The keys are the leaf, or the numbers of the operands; these determine the
+/// degree, so no key holds it.
 #[derive(Drop)]
 pub struct KindTables<A: Copy + Ord> {
     pub(crate) leaves: KindTable<A>,
@@ -20,7 +20,7 @@ pub struct KindTables<A: Copy + Ord> {
 }
 
 impl<A: Copy + Ord> KindTables<A> {
-    /// Tables without numbers. They take no memory.
+    /// Tables without numbers. Allocates nothing.
     pub fn new(alloc: Global) -> Self
         ensures { AreNumberedIn A.cmp result [] }
     {
@@ -33,7 +33,7 @@ impl<A: Copy + Ord> KindTables<A> {
         }
     }
 
-    /// The number of a node, if it is among those that are numbered, of whatever degree.
+    /// The number of an equal node, whatever degree it states.
     pub fn find(&self, node: &SymbolicExpr<A>) -> Option<usize>
         ensures { (nodes : List (SymbolicExpr A))
             → AreNumberedIn A.cmp self.now nodes
@@ -48,8 +48,8 @@ impl<A: Copy + Ord> KindTables<A> {
         }
     }
 
-    /// Gives the node behind those that are numbered its number, how many these are. Where memory is refused, nothing
-    /// has changed.
+    /// Enters the node after those already numbered; `number` is the number of these. On failure the tables find what
+    /// they found before.
     pub fn enter(&mut self, node: &SymbolicExpr<A>, number: usize) -> Result<(), AllocError>
         requires exact { (a b : A) → A.cmp a b ≡ Equal → a ≡ b }
         ensures entered { OnOk result ((nodes : List (SymbolicExpr A)) → number ≡ length nodes

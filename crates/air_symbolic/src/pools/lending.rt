@@ -1,4 +1,4 @@
-//! The pool that lies under another: an extension pool owns its base pool.
+//! Access to a pool's base: an extension pool owns its base pool.
 ghost use Rattle.std.specs.Prelude.{◌≡◌};
 ghost use Rattle.std.specs.Borrow.{Lends, sem};
 ghost use Rattle.air_symbolic.specs.Pools.{on_base};
@@ -8,15 +8,15 @@ use crate::leaves::sym_leaf::SymLeaf;
 use crate::pools::pool::ExprPool;
 
 impl<A: SymLeaf> ExprPool<A> {
-    /// What lies under the pool: of an extension pool its base pool, for reading.
+    /// The pool's base, for reading: an extension pool's base pool.
     pub fn base(&self) -> &A::Base
         ensures { result.now ≡ self.now.base }
     {
         &self.base
     }
 
-    /// What lies under the pool: of an extension pool its base pool, for writing. What is left there has to extend what
-    /// was lent, as every call of a pool does, and then the pool itself has grown.
+    /// The pool's base, for writing: an extension pool's base pool. The caller must only extend it, as every call of a
+    /// pool does; then the pool itself has grown.
     pub fn base_mut(&mut self) -> &mut A::Base
         ensures* lends { sem 𝓛 (Lends (the_row A.row A.F.row A.Base.row A.SymLeaf.own
             A.PartialEq.own A.Ord.own A.PartialOrd.own A.Debug.own A.F.Field.own A.F.PartialEq.own

@@ -14,7 +14,7 @@ use crate::pools::pool::ExprPool;
 use crate::pools::reach::reached_nodes;
 use air_field::{ExtensionField, Field, RingError};
 
-// The base number at a number's place.
+// The base number in the table at a number.
 fn lowered_at<F: Field, EF: ExtensionField<F>>(
     table: &[Option<ExprId<BaseLeaf<F>>>],
     id: ExprId<ExtLeaf<F, EF>>,
@@ -29,7 +29,7 @@ fn lowered_at<F: Field, EF: ExtensionField<F>>(
 }
 
 impl<F: Field, EF: ExtensionField<F>> ExprPool<ExtLeaf<F, EF>> {
-    // Whether what is marked is a leaf of the extension alone.
+    // Whether the marked node is an extension-only leaf.
     fn is_ext_only(&self, mark: Option<ExprId<ExtLeaf<F, EF>>>) -> bool
         requires pool { IsPool (ext_reads EF.basis) self.now }
         requires here { IfSome mark (λ i. i < size self.now) }
@@ -45,7 +45,7 @@ impl<F: Field, EF: ExtensionField<F>> ExprPool<ExtLeaf<F, EF>> {
         }
     }
 
-    // Whether a leaf of the extension alone occurs: whether one is reached.
+    // Whether the tree has an extension-only leaf: whether one of the reached nodes is one.
     fn has_ext_only(
         &self,
         id: ExprId<ExtLeaf<F, EF>>,
@@ -65,8 +65,8 @@ impl<F: Field, EF: ExtensionField<F>> ExprPool<ExtLeaf<F, EF>> {
         false
     }
 
-    // The counterpart of a node in the base pool: a Base leaf has one already; any other node is made anew of its
-    // operands' counterparts, with the same degree.
+    // The counterpart of a node in the base pool: a Base leaf names one already (`Err`); any other node is made from
+    // its operands' counterparts, with the same degree (`Ok`).
     fn over_base(
         &self,
         id: ExprId<ExtLeaf<F, EF>>,
@@ -115,7 +115,7 @@ impl<F: Field, EF: ExtensionField<F>> ExprPool<ExtLeaf<F, EF>> {
         }
     }
 
-    // The base expression of a number, out of those of its operands.
+    // The base expression of a number, made from those of its operands.
     fn lower_node(
         &mut self,
         id: ExprId<ExtLeaf<F, EF>>,
@@ -135,7 +135,7 @@ impl<F: Field, EF: ExtensionField<F>> ExprPool<ExtLeaf<F, EF>> {
         }
     }
 
-    // The same of what is marked.
+    // The base expression of a marked number, made from those of its operands.
     fn lower_mark(
         &mut self,
         mark: Option<ExprId<ExtLeaf<F, EF>>>,
@@ -157,8 +157,8 @@ impl<F: Field, EF: ExtensionField<F>> ExprPool<ExtLeaf<F, EF>> {
         }
     }
 
-    // The base expression of a tree in which no leaf of the extension alone occurs: what it reaches is lowered from the
-    // least number up, into a table that has no place yet.
+    // The base expression of a tree without extension-only leaves. The reached nodes are lowered in ascending order,
+    // into a table that must be empty.
     fn lower_into(
         &mut self,
         id: ExprId<ExtLeaf<F, EF>>,
@@ -184,7 +184,7 @@ impl<F: Field, EF: ExtensionField<F>> ExprPool<ExtLeaf<F, EF>> {
         Ok(lowered_at(table, id))
     }
 
-    // The same, with a table of its own.
+    // `lower_into` with a new table.
     fn lower(
         &mut self,
         id: ExprId<ExtLeaf<F, EF>>,
@@ -205,8 +205,8 @@ impl<F: Field, EF: ExtensionField<F>> ExprPool<ExtLeaf<F, EF>> {
         self.lower_into(id, marks, &mut table)
     }
 
-    /// The base expression with the same tree, not simplified, and so with the same term; None exactly where a leaf of
-    /// the extension alone occurs, and then the base pool is as it was. It refuses for want of memory alone.
+    /// The base expression with the same tree, not simplified, and so with the same term; `None` exactly if the tree
+    /// has an extension-only leaf, and then the base pool is unchanged.
     pub fn to_base(
         &mut self,
         id: ExprId<ExtLeaf<F, EF>>,

@@ -1,4 +1,4 @@
-//! The numbers of nodes of all kinds, in tables that are made with the first node.
+//! The numbers of nodes of all kinds, in tables that are made for the first node.
 ghost use Rattle.std.specs.Prelude.{◌≡◌, ◌<◌, ◌++◌, [], ◌∷◌, List, length, MatchOption, OnOk, OnErr};
 ghost use Rattle.std.specs.declared.cmp.Ordering.TheVariants.{Equal};
 ghost use Rattle.air_symbolic.specs.Numbering.{IsNowhere, IsAt, FindEach};
@@ -8,15 +8,15 @@ use crate::pools::expr::SymbolicExpr;
 use crate::pools::kind_tables::KindTables;
 use std::alloc::{AllocError, Global};
 
-/// The numbers of a list's nodes. Without nodes there are no tables, so that an empty pool takes no memory and any pool
-/// is small to move.
+/// The numbers of a list's nodes. There are no tables before the first node, so that an empty pool allocates nothing,
+/// and every pool is cheap to move.
 #[derive(Drop)]
 pub struct NodeNumbers<A: Copy + Ord> {
     pub(crate) tables: Vec<KindTables<A>>,
 }
 
 impl<A: Copy + Ord> NodeNumbers<A> {
-    /// Nothing numbered. It takes no memory.
+    /// The numbers of the empty list. Allocates nothing.
     pub fn new(alloc: Global) -> Self
         ensures { FindEach A.cmp result.tables.items [] }
     {
@@ -25,7 +25,7 @@ impl<A: Copy + Ord> NodeNumbers<A> {
         }
     }
 
-    /// The number of a node, if it is among those that are numbered, of whatever degree.
+    /// The number of an equal node, whatever degree it states.
     pub fn find(&self, node: &SymbolicExpr<A>) -> Option<usize>
         ensures { (nodes : List (SymbolicExpr A))
             → FindEach A.cmp self.now.tables.items nodes
@@ -34,8 +34,8 @@ impl<A: Copy + Ord> NodeNumbers<A> {
         self.tables.first()?.find(node)
     }
 
-    /// Gives the node behind those that are numbered its number, how many these are. Where memory is refused, nothing
-    /// has changed.
+    /// Enters the node after those already numbered; `number` is the number of these. On failure the tables find what
+    /// they found before.
     pub fn enter(&mut self, node: &SymbolicExpr<A>, number: usize) -> Result<(), AllocError>
         requires exact { (a b : A) → A.cmp a b ≡ Equal → a ≡ b }
         ensures entered { OnOk result ((nodes : List (SymbolicExpr A)) → number ≡ length nodes
@@ -51,7 +51,7 @@ impl<A: Copy + Ord> NodeNumbers<A> {
         self.tables[0].enter(node, number)
     }
 
-    /// Makes the tables, where there are none yet.
+    /// Makes the tables if there are none yet.
     fn begin(&mut self) -> Result<(), AllocError>
         ensures kept { (nodes : List (SymbolicExpr A))
             → FindEach A.cmp self.old.tables.items nodes
@@ -60,7 +60,7 @@ impl<A: Copy + Ord> NodeNumbers<A> {
     {
         if self.tables.is_empty() {
             let alloc = *self.tables.allocator();
-            // (a push alone makes room for four)
+            // (a push by itself reserves room for four)
             self.tables.reserve_exact(1)?;
             self.tables.push(KindTables::new(alloc))?;
         }

@@ -1,4 +1,4 @@
-//! Nodes in the order of their numbers, and the number of each in an ordered map of its kind.
+//! Nodes by number, and tables that find the number of a node.
 ghost use Rattle.std.specs.Prelude.{◌≡◌, ◌<◌, ◌++◌, [], ◌∷◌, length, Some, MatchOption, IfOk, OnErr, IfSome, true};
 ghost use Rattle.std.specs.declared.cmp.Ordering.TheVariants.{Equal};
 ghost use Rattle.std.specs.List.{slice_get};
@@ -10,19 +10,19 @@ use crate::pools::node_numbers::NodeNumbers;
 use std::alloc::{AllocError, Global};
 use std::marker::Model;
 
-// How many places remember a number.
+// The number of entries of the cache `remembered`.
 const PLACES: usize = 256;
 
-// How many nodes there is room for from the first one on: those of a small AIR.
+// The number of nodes that the first one reserves room for: enough for a small AIR.
 const FIRST_NODES: usize = 24;
 
-/// Nodes by their numbers, which are handed out in order. Maps find a node's number, so that no call walks the list.
+/// Nodes by their numbers, which are given in order. Tables find a node's number, so no call walks the list.
 #[derive(Drop)]
 pub struct NodeTable<A: Copy + Ord> {
     nodes: Vec<SymbolicExpr<A>>,
     numbers: NodeNumbers<A>,
-    // by place, a number that a node of this place may have; without places until one is remembered, so that a pool is
-    // small to move, and of numbers of 32 bits, so that its block is small too
+    // A cache: at each index a number that a node with this index may have. It is empty until the first number is
+    // remembered, so that a pool is cheap to move, and its numbers have 32 bits, so that it is small.
     remembered: Vec<u32>,
 }
 
@@ -39,7 +39,7 @@ impl<A: Copy + Ord> Model for NodeTable<A> {
 }
 
 impl<A: Copy + Ord> NodeTable<A> {
-    /// A table without nodes. It takes no memory.
+    /// A table without nodes. Allocates nothing.
     pub fn new(alloc: Global) -> Self
         ensures { result ≡ [] }
     {
@@ -55,14 +55,14 @@ impl<A: Copy + Ord> NodeTable<A> {
         self.nodes.allocator()
     }
 
-    /// How many nodes there are.
+    /// The number of nodes.
     pub fn len(&self) -> usize
         ensures { result ≡ length self.now }
     {
         self.nodes.len()
     }
 
-    /// The node of a number.
+    /// The node with this number.
     pub fn get(&self, number: usize) -> &SymbolicExpr<A>
         requires { number < length self.now }
         ensures { slice_get self.now number ≡ Some result.now }
@@ -70,14 +70,14 @@ impl<A: Copy + Ord> NodeTable<A> {
         &self.nodes[number]
     }
 
-    /// The number of a node, if it is there, of whatever degree.
+    /// The number of an equal node, whatever degree it states.
     pub fn find(&self, node: &SymbolicExpr<A>) -> Option<usize>
         ensures { MatchOption result (IsNowhere self.now node.now) (IsAt self.now node.now) }
     {
         self.numbers.find(node)
     }
 
-    /// The number that is remembered at a place, if it is the node's.
+    /// The number that is remembered at an index, if it is the node's.
     pub fn recall(&self, place: usize, node: &SymbolicExpr<A>) -> Option<usize>
         requires exact { (n : SymbolicExpr A)
             → ⟦<SymbolicExpr<A> as PartialEq>⟧.eq node.now n ≡ true → node.now ≡ n }
@@ -90,7 +90,7 @@ impl<A: Copy + Ord> NodeTable<A> {
         None
     }
 
-    /// Remembers a number below 2^32 at a place, which changes no node.
+    /// Remembers a number below 2^32 at an index. No node changes.
     pub fn remember(&mut self, place: usize, number: usize)
         ensures { self.new ≡ self.old }
     {
@@ -98,7 +98,7 @@ impl<A: Copy + Ord> NodeTable<A> {
             return;
         };
         if self.remembered.is_empty() {
-            // What can't be remembered for want of memory is looked for.
+            // Without memory for the cache, nodes are found by search.
             let Ok(places) = vec![in *self.nodes.allocator(); 0u32; PLACES] else {
                 return;
             };
@@ -109,7 +109,7 @@ impl<A: Copy + Ord> NodeTable<A> {
         }
     }
 
-    /// One more node, and its number. Where memory is refused, nothing has changed.
+    /// Adds a node and answers its number. On failure the table is unchanged.
     pub fn push(&mut self, node: SymbolicExpr<A>) -> Result<usize, AllocError>
         requires exact { (a b : A) → A.cmp a b ≡ Equal → a ≡ b }
         requires absent { IsNowhere self.old node }

@@ -1,4 +1,4 @@
-//! The simplified operations: the first case of the table of simplification that fits, else a node.
+//! The simplified operations: each applies the first simplification that fits, or else makes a node.
 ghost use Rattle.std.specs.Prelude.{◌≡◌, ◌<◌, ◌≤◌, ◌+◌, ◌^◌, ◌↔◌, IfOk, IfErr};
 ghost use Rattle.air_field.specs.Term.{add_term, sub_term, neg_term, mul_term};
 ghost use Rattle.air_field.specs.Degree.{degree_by, cached_weight};
@@ -34,7 +34,7 @@ impl<A: SymLeaf> ExprPool<A> {
         self.constant(A::F::ZERO)
     }
 
-    // What an operation on x and y simplifies to.
+    // Makes the expression that an operation on x and y simplifies to.
     fn simplified_to(
         &mut self,
         simplified: Simplified<A::F>,
@@ -110,8 +110,8 @@ impl<A: SymLeaf> ExprPool<A> {
         }
     }
 
-    /// The product, simplified. It is refused with `DegreeOverflow` exactly where a node is needed and the operands'
-    /// degrees add past `usize`.
+    /// The product, simplified. Fails with `DegreeOverflow` exactly if a node is needed and the sum of the operands'
+    /// degrees exceeds `usize`, or with `Memory`.
     pub fn mul(&mut self, x: ExprId<A>, y: ExprId<A>) -> Result<ExprId<A>, RingError>
         requires owed { FitsBase A.reads self.old }
         requires x_in { x < size self.old }

@@ -10,7 +10,7 @@ use crate::pools::node_table::NodeTable;
 use std::alloc::Global;
 use std::marker::Model;
 
-/// Expressions, each tree once, over what their leaves name.
+/// Expressions, each tree only once, over the base that their leaves refer to.
 #[derive(Drop)]
 pub struct ExprPool<A: SymLeaf> {
     pub(crate) nodes: NodeTable<A>,
@@ -24,7 +24,7 @@ impl<A: SymLeaf> Model for ExprPool<A> {
 
     ghost view = { λ p. record { base = p.base; nodes = p.nodes } };
 
-    // Each node's operands are older than it, its degree is right, and no node is there twice.
+    // Each node's operands are older than the node, its degree is right, and no node occurs twice.
     ghost invariant = { λ p. IsNodeList A.reads p.nodes };
 }
 
@@ -40,8 +40,8 @@ impl<A: SymLeaf> ExprPool<A> {
         }
     }
 
-    /// The nodes fit what lies under them, which is all that a proof needs of a pool: its type keeps that they fit some
-    /// base, and what is owed of a lent one says that they fit this one.
+    /// No effect at run time. Turns "the nodes fit some base" (the type's invariant) and `FitsBase` (the caller's
+    /// promise) into `IsPool`.
     #[inline(always)]
     pub fn nodes_fit(&self)
         requires { FitsBase A.reads self.now }
@@ -50,21 +50,21 @@ impl<A: SymLeaf> ExprPool<A> {
         let _ = &self.nodes;
     }
 
-    /// How many nodes there are.
+    /// The number of nodes.
     pub fn len(&self) -> usize
         ensures { result ≡ size self.now }
     {
         self.nodes.len()
     }
 
-    /// Whether `id` is of this pool.
+    /// Whether `id` is a number of this pool.
     pub fn contains(&self, id: ExprId<A>) -> bool
         ensures { IsTrue result ↔ (id < size self.now) }
     {
         id.number() < self.nodes.len()
     }
 
-    /// The node of a number.
+    /// The node with this number.
     pub fn node(&self, id: ExprId<A>) -> &SymbolicExpr<A>
         requires owed { FitsBase A.reads self.now }
         requires here { id < size self.now }
@@ -73,7 +73,7 @@ impl<A: SymLeaf> ExprPool<A> {
         self.nodes.get(id.number())
     }
 
-    /// The degree by the cached weights, which the node states.
+    /// The degree by the cached weights; the node states it.
     pub fn degree_multiple(&self, id: ExprId<A>) -> usize
         requires owed { FitsBase A.reads self.now }
         requires here { id < size self.now }
@@ -100,7 +100,7 @@ impl<A: SymLeaf> ExprPool<A> {
         }
     }
 
-    /// The constant that the expression is, to simplify by: only a leaf is one.
+    /// The constant that the expression equals, which the simplified operations use; only a leaf can be one.
     pub fn as_const(&self, id: ExprId<A>) -> Option<A::F>
         requires owed { FitsBase A.reads self.now }
         requires here { id < size self.now }

@@ -1,4 +1,4 @@
-//! Which expressions of a pool some roots reach.
+//! Which expressions of a pool are reached from some roots.
 ghost use Rattle.std.specs.Prelude.{◌≡◌, ◌⊎◌, ◌<◌, ℕ, length, slice_index_or, None, All, Contains, IfOk, IfErr};
 ghost use Rattle.air_symbolic.specs.Nodes.{OperandsBelow};
 ghost use Rattle.air_symbolic.specs.Pools.{FitsBase, size};
@@ -10,7 +10,7 @@ use crate::pools::pool::ExprPool;
 use air_field::RingError;
 use std::alloc::Global;
 
-// So many places, of which none is marked.
+// A list of `places` marks, all unset.
 fn no_marks<A: SymLeaf>(alloc: Global, places: usize) -> Result<Vec<Option<ExprId<A>>>, RingError>
     ensures places { IfOk result (λ marks. length marks.items ≡ places) }
     ensures none { IfOk result (λ marks. (i : ℕ) → slice_index_or marks.items i None ≡ None) }
@@ -23,7 +23,7 @@ fn no_marks<A: SymLeaf>(alloc: Global, places: usize) -> Result<Vec<Option<ExprI
     Ok(marks)
 }
 
-// Marks an expression: its place holds it.
+// Marks an expression: the entry at its number is set to it.
 fn mark<A: SymLeaf>(marks: &mut [Option<ExprId<A>>], x: ExprId<A>)
     requires { x < length marks.old }
     ensures more { MarkedMore (λ i. i ≡ x) marks.old marks.new }
@@ -70,7 +70,7 @@ fn mark_all<A: SymLeaf>(marks: &mut [Option<ExprId<A>>], roots: &[ExprId<A>])
     }
 }
 
-// Marks what the roots reach, from the greatest number down: a node's operands have smaller numbers.
+// Marks the nodes that the roots reach, in descending order: a node's operands have smaller numbers.
 fn mark_reached<A: SymLeaf>(
     marks: &mut [Option<ExprId<A>>],
     pool: &ExprPool<A>,
@@ -92,7 +92,7 @@ fn mark_reached<A: SymLeaf>(
     }
 }
 
-/// The expressions that the roots reach, each at the place of its number. It is refused for want of memory alone.
+/// The expressions that the roots reach, each at the index that is its number.
 pub fn reached_nodes<A: SymLeaf>(
     alloc: Global,
     pool: &ExprPool<A>,

@@ -1,10 +1,10 @@
-//! Which case of simplification fits, by the operands' constants.
+//! Which simplification fits, by the operands' constants.
 ghost use Rattle.std.specs.Prelude.{◌≡◌};
 ghost use Rattle.air_symbolic.specs.Simplification.{simplified_sum, simplified_difference, simplified_product};
 
 use air_field::Field;
 
-/// What a simplified operation answers in place of a node: a constant, an operand, or the negated right operand.
+/// The answer of a simplified operation, in place of a node: a constant, an operand, or the negated right operand.
 #[derive(Clone, Copy)]
 pub enum Simplified<F> {
     Constant(F),
@@ -13,7 +13,7 @@ pub enum Simplified<F> {
     Negated,
 }
 
-/// What a sum simplifies to, if it does.
+/// What a sum simplifies to, if anything.
 pub fn simplify_sum<F: Field>(left: Option<F>, right: Option<F>) -> Option<Simplified<F>>
     ensures { result ≡ simplified_sum F.ring F.eq left right }
 {
@@ -25,7 +25,7 @@ pub fn simplify_sum<F: Field>(left: Option<F>, right: Option<F>) -> Option<Simpl
     }
 }
 
-/// What a difference simplifies to, if it does.
+/// What a difference simplifies to, if anything.
 pub fn simplify_difference<F: Field>(left: Option<F>, right: Option<F>) -> Option<Simplified<F>>
     ensures { result ≡ simplified_difference F.ring F.eq left right }
 {
@@ -37,7 +37,7 @@ pub fn simplify_difference<F: Field>(left: Option<F>, right: Option<F>) -> Optio
     }
 }
 
-/// What a product simplifies to, if it does.
+/// What a product simplifies to, if anything.
 pub fn simplify_product<F: Field>(left: Option<F>, right: Option<F>) -> Option<Simplified<F>>
     ensures { result ≡ simplified_product F.ring F.eq left right }
 {

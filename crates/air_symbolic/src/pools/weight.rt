@@ -1,15 +1,15 @@
-//! Weights of the leaves, by which a degree is counted.
+//! Weights of the leaves, which determine degrees.
 
 use air_field::RingError;
 
-/// How much each leaf counts in a degree.
+/// The weight of each leaf in a degree.
 #[derive(Clone, Copy, Debug)]
 pub enum LeafWeight<'a> {
-    /// As nodes state it.
+    /// The weights by which nodes state their degrees.
     Cached,
-    /// The same with this weight for the transition selector.
+    /// The cached weights, but with this weight for the transition selector.
     Transition(usize),
-    /// The degree of the leaf's polynomial over so many rows; `periods` holds the lengths of the periodic columns.
+    /// The degree of the leaf's polynomial over `trace_len` rows; `periods` holds the lengths of the periodic columns.
     Trace {
         trace_len: usize,
         periods: &'a [usize],
@@ -21,15 +21,15 @@ pub enum LeafWeight<'a> {
 pub struct Degrees {
     /// The degree of each root, in order.
     pub values: Vec<usize>,
-    /// The turns taken: a turn is the working out of one node's degree.
+    /// The number of turns taken: a turn computes one node's degree.
     pub turns: u128,
 }
 
 /// The degrees of a pool's first numbers.
 #[derive(Drop)]
 pub struct DegreeTable {
-    /// The degree of each number, or why it is refused.
+    /// The degree of each number, or the error of computing it.
     pub degrees: Vec<Result<usize, RingError>>,
-    /// The turns taken.
+    /// The number of turns taken.
     pub turns: u128,
 }

@@ -5,7 +5,7 @@ use Rattle.air_json.specs.ListReaders.{HasRead}
 use Rattle.air_json.specs.Unshared.{seen_at}
 use Rattle.air_json.proofs.lists.items_from.Given as goal
 
--- the items so far are read
+-- the items so far have been read
 abbrev pub invariant-loop-item : goal.invariant-loop-item
 invariant-loop-item g l =
     let A = g.A.WireLeaf in

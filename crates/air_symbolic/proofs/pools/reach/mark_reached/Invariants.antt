@@ -3,7 +3,7 @@ use Rattle.air_symbolic.specs.Reach.{Marked}
 use Rattle.air_symbolic.proofs.Marking.{OnlyReached, ClosedFrom}
 use Rattle.air_symbolic.proofs.pools.reach.mark_reached.Given as goal
 
--- What is marked is reached, and the marked nodes that were looked at have their operands marked.
+-- Marked numbers are reached, and the marked nodes visited so far have their operands marked.
 abbrev pub invariant-loop-number : goal.invariant-loop-number
 invariant-loop-number g l =
     let read = g.A.SymLeaf.reads l.pool.base in

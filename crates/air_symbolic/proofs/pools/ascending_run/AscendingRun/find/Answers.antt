@@ -5,7 +5,7 @@ use Rattle.std.proofs.lemmas.Fn.{always_returns_same}
 use Rattle.air_symbolic.proofs.Runs.{below-none, halved}
 use Rattle.air_symbolic.proofs.pools.ascending_run.AscendingRun.find.Goals as goal
 
--- a key beyond all others is not among them
+-- a key above all others isn't among them
 pub returns-then-is_below : goal.returns-then-is_below
 returns-then-is_below g c = sym (below-none g.met.K.Ord.total c.args.self.now c.args.key (c.if-is_below.ensures.0 refl))
 

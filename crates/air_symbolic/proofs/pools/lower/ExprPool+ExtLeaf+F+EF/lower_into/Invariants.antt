@@ -5,7 +5,7 @@ use Rattle.air_symbolic.specs.Pools.{Grown}
 use Rattle.air_symbolic.specs.Reach.{Marked}
 use Rattle.air_symbolic.proofs.pools.lower.ExprPool+ExtLeaf+F+EF.lower_into.Given as goal
 
--- what is marked so far is lowered in the base pool as it is now
+-- the marked numbers so far are lowered in the present base pool
 abbrev pub invariant-loop-mark : goal.invariant-loop-mark
 invariant-loop-mark g l = record {
   same_nodes : l.self.nodes ≡ l.initial.self.nodes;

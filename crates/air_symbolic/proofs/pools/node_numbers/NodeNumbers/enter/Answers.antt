@@ -5,7 +5,7 @@ use Rattle.air_symbolic.specs.declared.pools.expr.SymbolicExpr.{SymbolicExpr}
 use Rattle.air_symbolic.specs.declared.pools.kind_tables.KindTables.{KindTables}
 use Rattle.air_symbolic.proofs.pools.node_numbers.NodeNumbers.enter.Goals as goal
 
--- what the first table keeps on a refusal, the tables keep
+-- the list of tables keeps what the first table keeps on failure
 kept_in_first : {A T E : Type 0} (leaf_cmp : A → A → Ordering) (old tables : List (KindTables A)) (first new : KindTables A) (r : Result T E) → 0 < length tables → first ≡ get_or tables 0 first → ((nodes : List (SymbolicExpr A)) → FindEach leaf_cmp old nodes → FindEach leaf_cmp tables nodes) → OnErr r ((nodes : List (SymbolicExpr A)) → AreNumberedIn leaf_cmp first nodes → AreNumberedIn leaf_cmp new nodes) → OnErr r ((nodes : List (SymbolicExpr A)) → FindEach leaf_cmp old nodes → FindEach leaf_cmp (set tables 0 new) nodes)
 kept_in_first leaf_cmp old [] first new r there is begun kept = absurd (omega arith)
 kept_in_first leaf_cmp old (t ∷ ts) first new (Ok v) there is begun kept = tt

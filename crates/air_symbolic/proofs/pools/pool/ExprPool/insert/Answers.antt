@@ -28,7 +28,7 @@ returns-in_ok-number-in-None-clause-grown g c =
     Grown-push-seen g.met.A.SymLeaf.leaf_laws c.args.self.now c.self.inside.base c.self.inside.nodes c.self.view_is
     c.push.new.self c.args.node c.in_ok-number-in-None.ensures.pushed c.requires.fits (λ i e. let own = own-degree c.args.node in c.in-None.ensures i own.0 (e ∙ ap (λ n. Some n) (sym own.1)))
 
--- a node's operands are older than it is
+-- a node's operands are older than the node
 pub number_of-requires : goal.number_of-requires
 number_of-requires g c =
     let p = c.args.self.now in

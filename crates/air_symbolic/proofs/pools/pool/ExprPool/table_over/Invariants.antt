@@ -5,7 +5,7 @@ use Rattle.air_symbolic.specs.Pools.{term_at}
 use Rattle.air_symbolic.specs.DegreeTables.{AnswersDegrees}
 use Rattle.air_symbolic.proofs.pools.pool.ExprPool.table_over.Given as goal
 
--- the first numbers' degrees are known, and took a turn each
+-- the degrees of the first numbers are known, and took one turn each
 abbrev pub invariant-loop-number : goal.invariant-loop-number
 invariant-loop-number g l = record {
   degrees : AnswersDegrees (λ i. degree_by (leaf_weight l.weight) (term_at g.A.SymLeaf.reads l.self i)) l.number l.table.degrees.items;
