@@ -36,7 +36,7 @@ place-counted f counts x new lt now h = record {
       (cases_eq i x);
 }
 
--- what a mark says that was read
+-- an entry of the marks is its own index
 pub mark-own : (n : ℕ) (marks : List (Option ℕ)) (k : ℕ) (d : Option ℕ) (id : ℕ) → AreMarks n marks → k < length marks → get_or marks k d ≡ Some id → (id ≡ k) × (id < n) × (get_or marks k None ≡ Some id)
 mark-own n marks k d id h lt e =
     let at : get_or marks k None ≡ Some id = get_or_default marks k None d lt ∙ e in
@@ -50,6 +50,6 @@ module _ {A : Type 0} (ns : List (SymbolicExpr A)) (marks : List (Option ℕ)) w
       let here : slice_get ns k ≡ Some n = subst (λ j. slice_get ns j ≡ Some n) own is in
       ap (λ o. cond (is_some o) (node_places i (slice_get ns k)) 0) at ∙ ap (node_places i) here
 
--- one number more
+-- one more expression
 pub sum-more : (f : ℕ → ℕ) (n : ℕ) → total_below f (n + 1) ≡ total_below f n + f n
 sum-more f n = ap (total_below f) (add-one n)
