@@ -28,7 +28,7 @@ module _ {F : Type 0} {order : ℕ} (modular : Modular F order) where
   pub grown_on : (p q s : BaseNodes F) → GrownTo p q → GrownTo q s → GrownTo p s
   grown_on = Grown-trans (modular_ring modular) base_reads base_grows tt (base_leaf_laws (modular_ring modular))
 
-  -- ---- numbers of a pool that grows
+  -- ---- ids of a pool that grows
 
   pub all_in_push : (p q : BaseNodes F) (is : List ℕ) (i : ℕ) → GrownTo p q → AllIn p is → i < length q.nodes → AllIn q (is ++ i ∷ [])
   all_in_push p q [] i g h lt zero d b = lt
