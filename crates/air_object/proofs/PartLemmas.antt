@@ -68,7 +68,7 @@ only_memory see (Err (faults.NotCanonical place)) other h = absurd cc
 next_fails : {X Y : Type 0} (f : FlatError) (r : Result X FlatError) (next : X → Result Y FlatError) → Fails f r → Fails f (r >>= next)
 next_fails {X} f r next h = fails_if f (r >>= next) (λ n. ap (λ (q : Result X FlatError). q >>= next) (fails_is f r h n))
 
--- ---- one item more
+-- ---- one more item
 
 -- an item is taken from an array, of which the part before it is known
 pub item_taken : (p : Parse Json) (all : Option (Items × List Token)) (start n : ℕ) (ts r : List Token) (ds : List Data) (d : Data) → length ts ≤ n

@@ -24,7 +24,7 @@ pub struct FlatInput<F: Field> {
     pub pool: ExprPool<BaseLeaf<F>>,
     /// The constraints.
     pub roots: Vec<ExprId<BaseLeaf<F>>>,
-    /// The trace.
+    /// The main trace.
     pub main: RowMajorMatrix<F>,
     /// The preprocessed trace, if there is one.
     pub preprocessed: Option<RowMajorMatrix<F>>,
@@ -33,7 +33,7 @@ pub struct FlatInput<F: Field> {
     pub periodic: Vec<Vec<F>>,
     /// The boundary values.
     pub cells: Vec<BoundaryPublic>,
-    /// The largest number of failures wanted, if there is a limit.
+    /// The number of failures at which a check stops, if there is a limit.
     pub cap: Option<usize>,
     /// The degree weight of the transition selector in the domain; 0 if the selector is linear.
     pub transition_weight: usize,

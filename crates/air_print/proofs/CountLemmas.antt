@@ -1,4 +1,4 @@
--- Counts, one place after another.
+-- Counts, one use after another.
 use Rattle.std.specs.Prelude.{slice_get}
 use Rattle.std.proofs.Common.{◌≡◌, ◌≢◌, ℕ, ◌+◌, ◌<◌, true, false, cond, eqb, List, length, get_or, set, Option, None, Some, is_some, refl, sym, ap, subst, ◌∙◌, arith, ⊎_elim, add-one, length-set}
 use Rattle.std.proofs.lemmas.Bool.{cases_eq, ne_eqb}
@@ -20,7 +20,7 @@ place-same i = ap (λ b. cond b 1 0) (⊎_elim (λ (h : (eqb i i ≡ true) × (i
 place-other : (i x : ℕ) → i ≢ x → one_if_is i x ≡ 0
 place-other i x ne = ap (λ b. cond b 1 0) (ne_eqb x i (λ e. ne (sym e)))
 
--- a place that names x is counted
+-- a use of x is counted
 pub place-counted : (f : ℕ → ℕ) (counts : List Places) (x : ℕ) (new : Places) → x < length counts → ((n : ℕ) → get_or counts x Nowhere ≡ places_for n → new ≡ places_for (n + 1)) → AreCounted f counts → AreCounted (λ i. f i + one_if_is i x) (set counts x new)
 place-counted f counts x new lt now h = record {
   each = λ i b.

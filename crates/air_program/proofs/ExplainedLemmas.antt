@@ -58,13 +58,13 @@ module _ {F : Type 0} {p : ℕ} (m : Modular F p) (pool : BaseNodes F) (roots : 
             ∙ ap (λ t. old ++ t) (sym (flat_map-append (λ line. line ++ codes "\n") here more) ∙ ap lines_text (sym (flat_map-append (λ b. b) h.blocks k.blocks)));
       }
 
-  -- one failure more
+  -- one more failure
   pub explained-more : (failures : List ConstraintFailure) (i : ℕ) (f : ConstraintFailure) (old mid new : List ℕ) → i < length failures → f ≡ get_or failures i f → PushesExplained m pool roots cells trace names (map seen_failure (take i failures)) old mid → PushesExplained m pool roots cells trace names (seen_failure f ∷ []) mid new → PushesExplained m pool roots cells trace names (map seen_failure (take (i + 1) failures)) old new
   explained-more failures i f old mid new lt is h k =
       subst (λ fs. PushesExplained m pool roots cells trace names fs old new) (sym (seen-more failures i f lt is))
       (explained-further (map seen_failure (take i failures)) (seen_failure f ∷ []) old mid new h k)
 
--- one failure's constraint more
+-- the constraint of one more failure
 pub failing-more : (roots : List ℕ) (failures : List ConstraintFailure) (i : ℕ) (f : ConstraintFailure) → i < length failures → f ≡ get_or failures i f → failing_roots roots (map seen_failure (take (i + 1) failures)) ≡ failing_roots roots (map seen_failure (take i failures)) ++ option_to_list (slice_get roots f.constraint)
 failing-more roots failures i f lt is =
     ap (failing_roots roots) (seen-more failures i f lt is)
@@ -82,7 +82,7 @@ failing-none roots failures i f lt is past =
     ∙ ap (λ (o : Option ℕ). failing_roots roots (map seen_failure (take i failures)) ++ option_to_list o) past
     ∙ append-nil (failing_roots roots (map seen_failure (take i failures)))
 
--- what `get` lends
+-- the item that `get` borrows
 pub item_there : {X : Type 0} (xs : List X) (i : ℕ) (b : Bor X) → IsItemAt xs i (Some b) → slice_get xs i ≡ Some b.now
 item_there xs i b h = slice_get_read xs (length xs) i b.now refl h.3.0 h.1
 

@@ -224,7 +224,7 @@ fn explain_findings<F: PrimeField64>(
     }
 }
 
-// Audits that the roots are zero on the trace, and explains the failures.
+// Audits the input, and explains its failures.
 fn explain_input<F: PrimeField64 + 'static>(
     alloc: Global,
     input: FlatInput<F>,

@@ -35,7 +35,7 @@ pub(crate) fn with_table<F: Field>(air: FlatAir<F>, table: Option<RowMajorMatrix
     }
 }
 
-/// Audits that the roots are zero on the trace.
+/// Audits the AIR of an input, each of whose roots must be zero, on its trace.
 fn audit_input<F: PrimeField64 + 'static>(
     alloc: Global,
     input: FlatInput<F>,

@@ -45,7 +45,7 @@ module _ {E : Type 0} (r : CommRing E) where
     running-append acc [] ys = refl
     running-append acc (x ∷ xs) ys = running-append (r.add (r.mul acc alpha) x) xs ys
 
-    -- one value more
+    -- one more value
     pub folded_on-one : (acc v : E) → r.add (r.mul acc alpha) v ≡ folded_on r alpha acc (v ∷ [])
     folded_on-one acc v = running-is acc (v ∷ [])
 
