@@ -56,7 +56,7 @@ label_read d = or_wrong_form (as_str d)
 unfoldable pub labels : ℕ → Reader (List (List ℕ))
 labels n d = list_read label_read d >>= if_at_most n
 
--- ---- boundary cells
+-- ---- boundary values
 
 abbrev pub cell_read : Reader BoundaryPublic
 cell_read d = or_wrong_form (cell_of d)

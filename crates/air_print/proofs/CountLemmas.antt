@@ -36,7 +36,7 @@ place-counted f counts x new lt now h = record {
       (cases_eq i x);
 }
 
--- an entry of the marks is its own index
+-- a mark is its own index, which is below n
 pub mark-own : (n : ℕ) (marks : List (Option ℕ)) (k : ℕ) (d : Option ℕ) (id : ℕ) → AreMarks n marks → k < length marks → get_or marks k d ≡ Some id → (id ≡ k) × (id < n) × (get_or marks k None ≡ Some id)
 mark-own n marks k d id h lt e =
     let at : get_or marks k None ≡ Some id = get_or_default marks k None d lt ∙ e in

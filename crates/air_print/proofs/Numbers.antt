@@ -14,7 +14,7 @@ use Rattle.air_symbolic.specs.declared.pools.expr.SymbolicExpr.TheVariants as no
 use Rattle.air_print.specs.Names.{passing_below}
 use Rattle.air_print.specs.Values.{number_value, node_value, Known, AreClosed}
 
--- an entry of the marks is its own index
+-- a mark is its own index
 pub mark-own : {F : Type 0} (ns : List (SymbolicExpr (BaseLeaf F))) (marks : List (Option ℕ)) (k : ℕ) (d : Option ℕ) (id : ℕ) → AreClosed ns marks → k < length marks → get_or marks k d ≡ Some id → (id ≡ k) × (id < length ns) × (get_or marks k None ≡ Some id)
 mark-own ns marks k d id h lt e =
     let at : get_or marks k None ≡ Some id = get_or_default marks k None d lt ∙ e in

@@ -5,7 +5,7 @@ use Rattle.air_print.specs.Names.{is_reached, has_operation}
 use Rattle.air_print.specs.declared.counts.Places.{Places}
 use Rattle.air_print.specs.declared.counts.Places.TheVariants.{Nowhere, Once, More}
 
--- marks of n expressions: each entry is its own index
+-- marks of n expressions: each mark is its own index
 pub record AreMarks (n : ℕ) (marks : List (Option ℕ)) : Type 0 where
   pub places : length marks ≡ n
   pub own : (i j : ℕ) → slice_index_or marks i None ≡ Some j → j ≡ i

@@ -28,7 +28,7 @@ module _ {F : Type 0} (r : CommRing F) (s : Leaf → F) where
   abbrev pub Known : List (SymbolicExpr (BaseLeaf F)) → List (Option ℕ) → ℕ → List F → Type 0
   Known ns marks k values = (i : ℕ) → i < k → Marked marks i → slice_index_or values i r.zero ≡ number_value ns i
 
--- Marks of all nodes: each entry is its own index, and the operands of a marked node are marked.
+-- Marks of all nodes: each mark is its own index, and the operands of a marked node are marked.
 pub record AreClosed {F : Type 0} (ns : List (SymbolicExpr (BaseLeaf F))) (marks : List (Option ℕ)) : Type 0 where
   pub places : length marks ≡ length ns
   pub own : (i j : ℕ) → slice_index_or marks i None ≡ Some j → j ≡ i

@@ -15,7 +15,7 @@ use air_field::{BabyBear, Goldilocks, KoalaBear, Mersenne31, PrimeField64};
 use air_object::{FieldName, Parts, TextFault, field_of, parts_of};
 use std::alloc::Global;
 
-/// The answers that there are to an object.
+/// The kind of answer to an object.
 #[derive(Clone, Copy, Debug, PartialEq, Eq, Drop)]
 pub enum Wanted {
     /// The findings of an audit.

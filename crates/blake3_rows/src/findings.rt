@@ -15,7 +15,7 @@ use std::alloc::Global;
 pub struct Findings {
     /// The message's digest.
     pub digest: [u32; 8],
-    /// The digest in the output columns of the last row.
+    /// The first eight words in the output columns of the last row, where a digest belongs.
     pub output: [u32; 8],
     /// The number of the message's blocks.
     pub blocks: usize,
