@@ -1,4 +1,4 @@
--- The last nodes of a pool that grew by one.
+-- The last nodes of a pool that grows by one.
 use Rattle.std.proofs.Common.{◌≡◌, ℕ, ◌+◌, ◌<◌, [], ◌∷◌, length, ap, ◌∙◌, arith}
 use Rattle.std.proofs.Math.ListN.{length-append}
 use Rattle.std.proofs.lemmas.List.Elements.{All-cons}
@@ -18,7 +18,7 @@ module _ {F : Type 0} {grows : Unit {0} → Unit {0} → Type 0} {p q : Pool (Un
     here = All-cons (λ i. i < length q.nodes) v (x ∷ y ∷ z ∷ []) (kept (old.here 1 0 (omega arith))) (All-cons (λ i. i < length q.nodes) x (y ∷ z ∷ []) (kept (old.here 2 0 (omega arith))) (All-cons (λ i. i < length q.nodes) y (z ∷ []) (kept (old.here 3 0 (omega arith))) (All-cons (λ i. i < length q.nodes) z [] h (λ k d b. absurd (omega (arith, b))))));
   }
 
--- one node stands for all four
+-- one node serves as all four
 pub one_node : {F : Type 0} (p : BaseNodes F) (y : ℕ) → IsPool base_reads p → y < size p → RootsIn p (y ∷ y ∷ y ∷ y ∷ [])
 one_node p y pool h =
     let P : ℕ → Type 0 = λ i. i < size p in

@@ -1,4 +1,4 @@
-//! Checks of Fibonacci, of an AIR as it is recorded, and of any AIR on a trace.
+//! Checks of Fibonacci, of a recorded AIR, and of any AIR on a trace.
 
 use crate::traces::{fibonacci_trace, wide_trace};
 use air_audit::{
@@ -8,13 +8,12 @@ use air_audit::{
 use example_fibonacci::Fibonacci;
 use std::alloc::Global;
 
-/// A cap that no check of a trace reaches, another one each round: so no compiler does the work of
-/// all rounds in one.
+/// A cap that no check of a trace reaches, different in each round so that the compiler can't merge the rounds.
 fn cap_of(round: usize) -> Option<usize> {
     Some(usize::MAX - round)
 }
 
-// How many failures a check finds, and how many constraints a row has.
+// The number of failures that a check finds, and the number of constraints in a row.
 fn counts_of_check<'a, F: Field + 'static, A: Air<DebugConstraintBuilder<'a, F, F>>>(
     alloc: Global,
     air: &'a A,
@@ -26,7 +25,7 @@ fn counts_of_check<'a, F: Field + 'static, A: Air<DebugConstraintBuilder<'a, F, 
     Ok((report.failures.len(), report.total_constraints_per_row))
 }
 
-// How many failures so many checks find, and how many constraints a row has, each summed.
+// The number of failures and the number of constraints in a row, each summed over `rounds` checks.
 fn check_rounds<'a, F: Field + 'static, A: Air<DebugConstraintBuilder<'a, F, F>>>(
     alloc: Global,
     air: &'a A,
@@ -44,7 +43,7 @@ fn check_rounds<'a, F: Field + 'static, A: Air<DebugConstraintBuilder<'a, F, F>>
     Ok((failures, constraints))
 }
 
-/// The failures that so many checks find.
+/// The number of failures, summed over `rounds` checks.
 pub fn count_failures<'a, F: Field + 'static, A: Air<DebugConstraintBuilder<'a, F, F>>>(
     alloc: Global,
     air: &'a A,
@@ -56,7 +55,7 @@ pub fn count_failures<'a, F: Field + 'static, A: Air<DebugConstraintBuilder<'a, 
     Ok(failures)
 }
 
-/// The failures that so many checks find, and the constraints of a row.
+/// The number of failures plus the number of constraints in a row, summed over `rounds` checks.
 pub fn count_checked<'a, F: Field + 'static, A: Air<DebugConstraintBuilder<'a, F, F>>>(
     alloc: Global,
     air: &'a A,
@@ -68,7 +67,7 @@ pub fn count_checked<'a, F: Field + 'static, A: Air<DebugConstraintBuilder<'a, F
     Ok(failures.wrapping_add(constraints))
 }
 
-/// The failures that so many checks of Fibonacci find, on so many rows.
+/// The number of failures, summed over `rounds` checks of Fibonacci on `rows` rows.
 pub fn check_fibonacci<F: Field + 'static>(
     alloc: Global,
     rounds: usize,
@@ -79,7 +78,7 @@ pub fn check_fibonacci<F: Field + 'static>(
     count_failures(alloc, &air, &main, &public, rounds)
 }
 
-// The AIR of what is recorded of an AIR with 64 columns.
+// The AIR of the recorded constraints of an AIR with 64 columns.
 fn flat_of<F: Field, A: BaseAir<F> + Air<SymbolicAirBuilder<F, F>>>(
     alloc: Global,
     air: &A,
@@ -89,7 +88,7 @@ fn flat_of<F: Field, A: BaseAir<F> + Air<SymbolicAirBuilder<F, F>>>(
     recorded_air(recorded, 64, 0, Vec::new(alloc), Vec::new(alloc))
 }
 
-// The failures that so many checks of a recorded AIR find, and the constraints of a row.
+// Checks a recorded AIR on the wide trace, and counts as `count_checked`.
 fn check_flat<F: Field + 'static>(
     alloc: Global,
     air: &FlatAir<F>,
@@ -100,7 +99,7 @@ fn check_flat<F: Field + 'static>(
     count_checked(alloc, air, &main, &[], rounds)
 }
 
-/// The same, with what is recorded of an AIR that the wide trace keeps.
+/// Records an AIR that the wide trace satisfies, and checks and counts as `check_flat`.
 pub fn check_recorded<F: Field + 'static, A: BaseAir<F> + Air<SymbolicAirBuilder<F, F>>>(
     alloc: Global,
     air: &A,

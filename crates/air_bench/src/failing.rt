@@ -11,7 +11,7 @@ use air_audit::author::{
 use air_audit::{AirBuilder, AirError, Field};
 use std::alloc::Global;
 
-/// Column 0 is zero, so many times.
+/// Column 0 is zero, asserted `count` times.
 #[derive(Clone, Copy, Drop)]
 struct Zeros {
     count: usize,
@@ -50,7 +50,7 @@ impl<AB: AirBuilder> PlainConstraints<AB> for Zeros {
     }
 }
 
-/// The failures that so many checks of 128 constraints find on so many rows that fail each.
+/// The number of failures, summed over `rounds` checks of 128 constraints on `rows` rows, each of which fails them all.
 pub fn check_failing<F: Field + 'static>(
     alloc: Global,
     rounds: usize,

@@ -9,7 +9,7 @@ use air_audit::{
 use air_folder::{ConstraintFolder, fold_air};
 use std::alloc::Global;
 
-// A folder at the first of these rows, whose next row it is too.
+// A folder at this row, which is also its next row.
 fn folder_at<'a, F: Field + 'static, EF: ExtensionField<F> + 'static>(
     row: &'a [EF],
     alpha: EF,
@@ -33,7 +33,7 @@ fn folder_at<'a, F: Field + 'static, EF: ExtensionField<F> + 'static>(
     )
 }
 
-// The constraints that one fold folds.
+// The number of constraints in one fold.
 fn count_folded<
     'a,
     F: Field + 'static,
@@ -46,7 +46,7 @@ fn count_folded<
     Ok(folded.recorded.base.len())
 }
 
-/// The constraints that so many folds at the row fold.
+/// The number of constraints, summed over `rounds` folds at the row.
 pub fn fold_rounds<
     'a,
     F: Field + 'static,

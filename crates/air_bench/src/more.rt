@@ -1,4 +1,4 @@
-//! An AIR with periodic columns, to be checked, and one with permutation columns, to be recorded.
+//! An AIR with periodic columns, for checks, and one with permutation columns, for recordings.
 ghost use Rattle.std.specs.Prelude.{◌≡◌, [], None};
 ghost use Rattle.air_builder.specs.Notation.{current, ext_is_zero, is_zero, periodic, ◌⊙◌};
 ghost use Rattle.air_bench.specs.More.{cycles, lookups, lookup_term};
@@ -17,7 +17,7 @@ use air_audit::{
 };
 use std::alloc::Global;
 
-/// The product of each of eight columns and its periodic column is zero.
+/// The product of each of eight columns with its periodic column is zero.
 #[derive(Drop)]
 pub struct Cycles<F> {
     columns: Vec<Vec<F>>,
@@ -82,8 +82,8 @@ impl<AB: AirBuilder> Air<AB> for Cycles<AB::F> {
     }
 }
 
-/// Over 32 permutation columns: the sum of each and a challenge, times the main column, is the next
-/// of it.
+/// For each of 32 permutation columns: the next value is the product of the main column with the sum of the current
+/// value and a challenge.
 #[derive(Clone, Copy, Drop)]
 pub struct Lookups {
     count: usize,
@@ -135,7 +135,7 @@ where
     }
 }
 
-// The AIR, with eight zeros in each periodic column.
+// The AIR, with periodic columns of eight zeros.
 fn cycles_of_zeros<F: Field>(alloc: Global) -> Result<Cycles<F>, AirError> {
     let mut columns = Vec::new(alloc);
     for _ in 0..8 {
@@ -145,7 +145,7 @@ fn cycles_of_zeros<F: Field>(alloc: Global) -> Result<Cycles<F>, AirError> {
     Ok(Cycles { columns })
 }
 
-// The failures that so many checks of it on a trace find, and the constraints of a row.
+// Checks the AIR on a trace, and counts as `count_checked`.
 fn check_trace<F: Field + 'static>(
     alloc: Global,
     main: &RowMajorMatrix<F>,
@@ -155,8 +155,7 @@ fn check_trace<F: Field + 'static>(
     count_checked(alloc, &air, main, &[], rounds)
 }
 
-/// The failures that so many checks of the AIR with periodic columns find, and the constraints of a
-/// row.
+/// Checks the AIR with periodic columns, and counts as `count_checked`.
 pub fn check_cycles<F: Field + 'static>(
     alloc: Global,
     rounds: usize,
@@ -166,7 +165,7 @@ pub fn check_cycles<F: Field + 'static>(
     check_trace(alloc, &main, rounds)
 }
 
-/// The constraints, all over the extension, that so many recordings record.
+/// The number of constraints, all of them over the extension, summed over `rounds` recordings.
 pub fn record_lookups<F: Field, EF: ExtensionField<F>>(
     alloc: Global,
     rounds: usize,

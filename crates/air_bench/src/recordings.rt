@@ -7,7 +7,7 @@ use air_audit::{
 use example_fibonacci::Fibonacci;
 use std::alloc::Global;
 
-/// The constraints that so many recordings over the base field record.
+/// The number of constraints, summed over `rounds` recordings over the base field.
 pub fn record_rounds<F: Field, A: BaseAir<F> + Air<SymbolicAirBuilder<F, F>>>(
     alloc: Global,
     air: &A,
@@ -22,7 +22,7 @@ pub fn record_rounds<F: Field, A: BaseAir<F> + Air<SymbolicAirBuilder<F, F>>>(
     Ok(count)
 }
 
-// The constraints, of the base and of the extension, that one recording with it records.
+// The number of base and extension constraints in one recording with the extension.
 fn record_ext<F: Field, EF: ExtensionField<F>, A: Air<SymbolicAirBuilder<F, EF>>>(
     alloc: Global,
     air: &A,
@@ -32,7 +32,7 @@ fn record_ext<F: Field, EF: ExtensionField<F>, A: Air<SymbolicAirBuilder<F, EF>>
     Ok(recorded.base.len().wrapping_add(recorded.ext.len()))
 }
 
-/// The constraints that so many recordings with the extension record.
+/// The number of constraints, summed over `rounds` recordings with the extension.
 pub fn record_rounds_ext<F: Field, EF: ExtensionField<F>, A: Air<SymbolicAirBuilder<F, EF>>>(
     alloc: Global,
     air: &A,
@@ -46,7 +46,7 @@ pub fn record_rounds_ext<F: Field, EF: ExtensionField<F>, A: Air<SymbolicAirBuil
     Ok(count)
 }
 
-/// The degrees that are inferred from so many recordings, summed.
+/// The inferred degrees, summed over `rounds` recordings.
 pub fn infer_rounds<F: Field, A: BaseAir<F> + Air<SymbolicAirBuilder<F, F>>>(
     alloc: Global,
     air: &A,
@@ -62,7 +62,7 @@ pub fn infer_rounds<F: Field, A: BaseAir<F> + Air<SymbolicAirBuilder<F, F>>>(
     Ok(count)
 }
 
-/// The constraints that so many recordings of Fibonacci record.
+/// The number of constraints, summed over `rounds` recordings of Fibonacci.
 pub fn record_fibonacci<F: Field>(alloc: Global, rounds: usize) -> Result<usize, AirError> {
     let air = Fibonacci::new();
     record_rounds::<F, Fibonacci>(alloc, &air, rounds)

@@ -1,6 +1,5 @@
-//! Works on the wide AIR. A call that hands over an AIR is dear to prove, since it hands over what
-//! each builder's traits promise too: so the AIR is handed over once for each kind of builder, with
-//! what to do.
+//! Works on the wide AIR. A call that passes an AIR is expensive to prove, since it also passes the promises of each
+//! builder's traits. So the AIR is passed only once for each kind of builder, together with the work.
 
 use crate::checks::{check_recorded, count_failures};
 use crate::folds::fold_rounds;
@@ -11,17 +10,17 @@ use air_audit::{Air, AirError, AirLayout, BaseAir, ExtensionField, Field, Symbol
 use air_folder::ConstraintFolder;
 use std::alloc::Global;
 
-/// What is done with an AIR that is recorded over the base field.
+/// The work on an AIR that is recorded over the base field.
 pub enum Work {
-    /// Its constraints are counted.
+    /// Count its constraints.
     Record,
-    /// Its degree over so many rows is inferred.
+    /// Infer its degree over a number of rows.
     Infer,
-    /// What is recorded is checked, as an AIR, on so many rows.
+    /// Check the recorded constraints, as an AIR, on a number of rows.
     Check,
 }
 
-// What so many rounds of a work count.
+// The count of `rounds` rounds of a work.
 fn base_rounds<F: Field + 'static, A: BaseAir<F> + Air<SymbolicAirBuilder<F, F>>>(
     alloc: Global,
     air: &A,
@@ -36,7 +35,7 @@ fn base_rounds<F: Field + 'static, A: BaseAir<F> + Air<SymbolicAirBuilder<F, F>>
     }
 }
 
-/// What so many rounds of a work on the wide AIR count.
+/// The count of `rounds` rounds of a work on the wide AIR.
 pub fn wide_rounds<F: Field + 'static>(
     alloc: Global,
     work: Work,
@@ -47,7 +46,7 @@ pub fn wide_rounds<F: Field + 'static>(
     base_rounds::<F, Wide>(alloc, &air, work, rounds, rows)
 }
 
-/// The failures that so many checks of the wide AIR find, on so many rows.
+/// The number of failures, summed over `rounds` checks of the wide AIR on `rows` rows.
 pub fn check_wide<F: Field + 'static>(
     alloc: Global,
     rounds: usize,
@@ -58,7 +57,7 @@ pub fn check_wide<F: Field + 'static>(
     count_failures(alloc, &air, &main, &[], rounds)
 }
 
-// The constraints that so many rounds fold at the row; where it is empty, those that they record
+// The number of constraints, summed over `rounds` folds at the row; or, if the row is empty, over `rounds` recordings
 // with the extension.
 fn ext_rounds<
     'a,
@@ -74,7 +73,7 @@ fn ext_rounds<
     }
 }
 
-// The same of the wide AIR.
+// Likewise for the wide AIR.
 fn wide_ext_rounds<F: Field + 'static, EF: ExtensionField<F> + 'static>(
     alloc: Global,
     row: &[EF],
@@ -84,7 +83,7 @@ fn wide_ext_rounds<F: Field + 'static, EF: ExtensionField<F> + 'static>(
     ext_rounds::<F, EF, Wide>(alloc, &air, row, rounds)
 }
 
-/// The constraints that so many recordings of the wide AIR with the extension record.
+/// The number of constraints, summed over `rounds` recordings of the wide AIR with the extension.
 pub fn record_wide_ext<F: Field + 'static, EF: ExtensionField<F> + 'static>(
     alloc: Global,
     rounds: usize,
@@ -92,7 +91,7 @@ pub fn record_wide_ext<F: Field + 'static, EF: ExtensionField<F> + 'static>(
     wide_ext_rounds::<F, EF>(alloc, &[], rounds)
 }
 
-// The row that is folded at: the numbers from 1.
+// The row for the folds: the numbers from 1.
 fn row_to_fold<F: Field, EF: ExtensionField<F>>(alloc: Global) -> Result<Vec<EF>, AirError> {
     let mut row = Vec::with_capacity(alloc, 64)?;
     for j in 1..=64u64 {
@@ -101,7 +100,7 @@ fn row_to_fold<F: Field, EF: ExtensionField<F>>(alloc: Global) -> Result<Vec<EF>
     Ok(row)
 }
 
-/// The constraints that so many folds of the wide AIR fold.
+/// The number of constraints, summed over `rounds` folds of the wide AIR.
 pub fn fold_wide<F: Field + 'static, EF: ExtensionField<F> + 'static>(
     alloc: Global,
     rounds: usize,

@@ -1,4 +1,4 @@
--- Checks that list nothing.
+-- Checks that list no failure.
 use Rattle.std.proofs.Common.{◌≡◌, ◌-◌, ◌<◌, ◌++◌, ℕ, zero, suc, List, [], ◌∷◌, map, take, get_or, slice_get, Bool, Option, Some, None, refl, sym, ◌∙◌, ap, ap₂, subst, arith}
 use Rattle.std.specs.Bool.{Decides}
 use Rattle.air_field.specs.Ring.{CommRing}
@@ -32,14 +32,14 @@ row_there (x ∷ rows) zero = refl
 row_there (x ∷ rows) (suc row) = row_there rows row
 
 module _ {F : Type 0} (r : CommRing F) (eq : F → F → Bool) (decides : (a b : F) → Decides (eq a b) (a ≡ b)) where
-  -- A report on a trace of compressions that lists nothing says that each row holds one.
+  -- If a report on a trace of compressions lists no failure, each row holds a compression.
   pub compressions_hold : (p : ℕ) → IsDomain r → CompressionIsSound r p → (main : Grid F) (report : ConstraintReport)
       → IsReport r eq (compression_instance r main) None report → report.failures.items ≡ [] → HoldCompressions r p main
   compressions_hold p domain sound main report h none big row l =
       let g = compression_instance r main in
       sound (row_assignment r (instance_trace g) row) domain big (report_vanish r eq decides g report row h none l)
 
-  -- A report on a trace whose rows satisfy all constraints lists nothing.
+  -- A report on a trace whose rows satisfy all constraints lists no failure.
   pub compression_rows_pass : (main : Grid F) → AreCompressionRows r r.zero main → ReportsListNothing r eq main
   compression_rows_pass main rows cap report h =
       let g = compression_instance r main in

@@ -1,4 +1,4 @@
--- Where a row holds a block, its states and its compression, all terms are zero.
+-- If a row holds a block, its states and its compression, all terms are zero.
 use Rattle.std.specs.Prelude.{◌≡◌, ℕ, zero, suc, refl, ◌+◌, ◌-◌, ◌*◌, ◌^◌, ◌<◌, ◌≤◌, List, [], ◌∷◌, ◌++◌, length, map, take, drop, bit_xor, slice_index}
 use Rattle.std.proofs.Common.{sym, ◌∙◌, ap, ap₂, subst, arith}
 use Rattle.air_field.specs.Ring.{CommRing, image, self_algebra, minus}
@@ -51,7 +51,7 @@ module _ {F : Type 0} (R : CommRing F) (s : Leaf → F) where
       let e = same_limbs h.limbs.low h.limbs.high k.limbs.low k.limbs.high h.small.0 k.small.0 (h.number ∙ sym k.number) in
       (equal_vanish _ _ _ h.values.0 (k.values.0 ∙ ap (image R) (sym e.0)), (equal_vanish _ _ _ h.values.1 (k.values.1 ∙ ap (image R) (sym e.1)), tt))
 
-  -- numbers below 2^32 with the same 32 bits
+  -- two lists of bits with equal lengths and equal numbers are equal
   same_bits : (bs cs : List ℕ) → AreBits bs → AreBits cs → length bs ≡ length cs → number_of bs ≡ number_of cs → bs ≡ cs
   same_bits [] [] hb hc e n = refl
   same_bits [] (c ∷ cs) hb hc e n = absurd (omega arith)

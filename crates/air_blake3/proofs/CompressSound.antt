@@ -1,4 +1,4 @@
--- Where the terms of a row are zero.
+-- The consequences of a row whose terms are all zero.
 use Rattle.std.specs.Prelude.{◌≡◌, ℕ, zero, suc, refl, ◌+◌, ◌*◌, ◌/◌, ◌%◌, ◌^◌, ◌<◌, ◌≤◌, List, [], ◌∷◌, ◌++◌, length, map, take, drop, bit_xor, slice_index, ◌⊎◌}
 use Rattle.std.proofs.Common.{sym, ◌∙◌, ap, ap₂, subst, inl, inr, arith}
 use Rattle.std.proofs.lemmas.Bool.{cases_lt}
@@ -61,7 +61,7 @@ module _ {F : Type 0} (R : CommRing F) (s : Leaf → F) where
         },
       )
 
-  -- limbs that are those of a word
+  -- limbs that equal those of a word hold the word
   limbs_hold : (t u : Limbs (Term F)) (n : ℕ) → IsLimbsOf R s u n → AllVanish R s (limbs_are t u) → IsLimbsOf R s t n
   limbs_hold t u n h vanish = record {
     limbs = h.limbs;
@@ -94,7 +94,7 @@ module _ {F : Type 0} (R : CommRing F) (s : Leaf → F) where
   xor_values ts us vs bs cs hb hc m n eb ec vanish =
       ring_values ts us vs m n vanish ∙ ap₂ (ring_xors R) eb ec ∙ xors-images R bs cs hb hc
 
-  -- the bits are those of the xor of two words
+  -- the bits hold the xor of two words
   xors_hold : (ts us vs : List (Term F)) (x y : ℕ) → length ts ≡ 32 → length us ≡ 32 → length vs ≡ 32
       → IsBitsOf R s ts x → IsBitsOf R s us y → AllVanish R s (xors_are ts us vs) → IsBitsOf R s vs (bit_xor x y)
   xors_hold ts us vs x y lt lu lv h k vanish = record {
@@ -106,14 +106,14 @@ module _ {F : Type 0} (R : CommRing F) (s : Leaf → F) where
   }
 
   module _ (p : ℕ) (has : HasCharacteristic R p) (domain : IsDomain R) (big : 3 * 2 ^ 16 < p) where
-    -- limbs hold one word
+    -- limbs hold only one word
     same_word : (t : Limbs (Term F)) (m n : ℕ) → IsLimbsOf R s t m → IsLimbsOf R s t n → m ≡ n
     same_word t m n h k =
         let low : h.limbs.low ≡ k.limbs.low = same_of_image R p has h.limbs.low k.limbs.low (omega (arith, h.small.0)) (omega (arith, k.small.0)) (sym h.values.0 ∙ k.values.0) in
         let high : h.limbs.high ≡ k.limbs.high = same_of_image R p has h.limbs.high k.limbs.high (omega (arith, h.small.1)) (omega (arith, k.small.1)) (sym h.values.1 ∙ k.values.1) in
         sym h.number ∙ ap₂ (λ x y. x + 2 ^ 16 * y) low high ∙ k.number
 
-    -- the limbs are a xor, not rotated, of a word's bits and the new ones
+    -- the limbs are the xor, not rotated, of a word's bits and the new bits
     flat_holds : (w : Limbs (Term F)) (ts us : List (Term F)) (n m : ℕ) → length us ≡ 32 → IsBitsOf R s ts n → IsLimbsOf R s w m
         → AllVanish R s (xor_asserts R w ts us 0) → IsBitsOf R s us (bit_xor n m)
     flat_holds w ts us n m whole h k vanish =
@@ -212,7 +212,7 @@ message_holds : {F : Type 0} (R : CommRing F) (s : Leaf → F) → IsDomain R �
 unfolding message_at bits_at
 message_holds R s domain i vanish = bits_hold R s domain (bits_at (message_column i)) refl (subst (AllVanish R s) (under-same (test_asserts R (bits_at (message_column i)))) vanish)
 
--- a word for each place below a count
+-- a word for each index below a count
 picked : (P : ℕ → ℕ → Type 0) (n : ℕ) → ((i : ℕ) → i < n → (x : ℕ) × P i x) → (i : ℕ) → (i < n) ⊎ (n ≤ i) → ℕ
 picked P n h i (inl l) = (h i l).0
 picked P n h i (inr l) = 0

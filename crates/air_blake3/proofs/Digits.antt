@@ -25,7 +25,7 @@ digits-number (suc k) n h =
     omega (arith, rest)
 
 module _ {F : Type 0} (R : CommRing F) (s : Leaf → F) where
-  -- the terms have the limbs of a word as their values, or its bits
+  -- the values of the terms are the limbs of a word, or its bits
   pub limbs_hold : (t : Limbs (Term F)) (n : ℕ) → n < 2 ^ 32 → value (self_algebra R) s t.low ≡ image R (n % 2 ^ 16) → value (self_algebra R) s t.high ≡ image R (n / 2 ^ 16)
       → IsLimbsOf R s t n
   limbs_hold t n fits low high = record {

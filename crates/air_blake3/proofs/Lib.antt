@@ -1,4 +1,4 @@
--- Lemmas on words, and on what is asserted of them.
+-- Lemmas on words and on their assertions.
 mod WordNumbers
 mod MixSound
 mod RoundSound

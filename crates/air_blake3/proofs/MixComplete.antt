@@ -1,4 +1,4 @@
--- Where words are mixed, the terms of G are zero.
+-- If words are mixed correctly, the terms of G are zero.
 use Rattle.std.specs.Prelude.{◌≡◌, ℕ, ◌+◌, ◌-◌, ◌*◌, ◌/◌, ◌%◌, ◌^◌, ◌<◌, List, [], ◌∷◌, ◌++◌, length, take, drop, bit_xor}
 use Rattle.std.specs.Int.{w32, rotate_right}
 use Rattle.std.specs.Int.Bits.{xor_lt}
@@ -24,7 +24,7 @@ use Rattle.air_blake3.specs.Holding.{IsLimbsOf, IsBitsOf, IsQuarterOf, MixIsComp
 use Rattle.air_blake3.proofs.WordNumbers.{xor_back, bits-take, bits-xor, bits-rotated, length-xor, length-rotated, number_of-lt, number_of-append, number_of-xor, number_of-halves, low_half-lt, rotated_back}
 use Rattle.air_blake3.proofs.MixSound.{packed_is, under-same}
 
--- the rotation of a number by its low s bits and the others
+-- a rotated number, from its low s bits and the others
 rotated_parts : (s : ℕ) → 0 < s → s < 32 → (y : ℕ) → y < 2 ^ 32 → rotate_right w32 y s ≡ y / 2 ^ s + 2 ^ (32 - s) * (y % 2 ^ s)
 rotated_parts s some within y fits =
     let parts : 32 ≡ 32 - s + s = omega arith in
@@ -33,7 +33,7 @@ rotated_parts s some within y fits =
     let whole : y % 2 ^ s + 2 ^ s * (y / 2 ^ s) ≡ y = omega (arith, shr_split y s) in
     ap (λ z. rotate_right w32 z s) (sym whole) ∙ rotated_back s within some (y / 2 ^ s) (y % 2 ^ s) low high
 
--- bits whose word is y, rotated to the right, are y where they are rotated to the left
+-- bits of y rotated to the right: rotating them to the left gives y
 turned_back : (s : ℕ) → 0 < s → s < 32 → (y : ℕ) → y < 2 ^ 32 → (bs : List ℕ) → AreBits bs → length bs ≡ 32
     → number_of bs ≡ rotate_right w32 y s → number_of (rotated_left s bs) ≡ y
 turned_back s some within y fits bs are count is =
@@ -65,14 +65,14 @@ module _ {F : Type 0} (R : CommRing F) (s : Leaf → F) where
   vanish-both (Base t ∷ ts) us h k = (h.0, vanish-both ts us h.1 k)
   vanish-both (Extension t ∷ ts) us h k = (h.0, vanish-both ts us h.1 k)
 
-  -- a word is below 2^32
+  -- a word held by limbs is below 2^32
   limbs-lt : (t : Limbs (Term F)) (n : ℕ) → IsLimbsOf R s t n → n < 2 ^ 32
   limbs-lt t n h = subst (λ x. x < 2 ^ 32) h.number (omega (arith, h.small.0, h.small.1))
 
   bits-lt : (ts : List (Term F)) (n : ℕ) → IsBitsOf R s ts n → n < 2 ^ 32
   bits-lt ts n h = subst (λ x. x < 2 ^ 32) h.number (subst (λ k. number_of h.bits < 2 ^ k) h.count (number_of-lt h.bits h.are))
 
-  -- where the limbs are a word and the new bits those of both words' xor, rotated, the terms of the xor are zero
+  -- if the limbs hold a word, and the new bits hold the rotated xor of both words, the terms of the xor are zero
   pub xor_vanishes : IsDomain R → (w : Limbs (Term F)) (ts us : List (Term F)) (n x j : ℕ) → 0 < j → j < 32
       → IsBitsOf R s ts n → IsLimbsOf R s w x → IsBitsOf R s us (rotate_right w32 (bit_xor n x) j)
       → AllVanish R s (xor_asserts R w ts us j)
@@ -118,7 +118,7 @@ module _ {F : Type 0} (R : CommRing F) (s : Leaf → F) where
         let v3 : AllVanish R s turned_b = xor_vanishes domain u.c t.b u.b q.b (half_mix j k q x).c k k_some k_within h.b new.c new.b in
         vanish-both sum_a (turned_d ++ (sum_c ++ turned_b)) v0 (vanish-both turned_d (sum_c ++ turned_b) v1 (vanish-both sum_c turned_b v2 v3))
 
--- Where the columns hold four words, half of G of them, and G of them, all terms of G are zero.
+-- If the columns hold four words, half of G on them, and G on them, all terms of G are zero.
 pub mix_is_complete : {F : Type 0} (R : CommRing F) (p : ℕ) → HasCharacteristic R p → MixIsComplete R p
 unfolding mix mix_asserts
 mix_is_complete R p has t m n u v s q x y domain big h first second middle last =

@@ -1,4 +1,4 @@
--- Where the terms of G are zero.
+-- The consequences of terms of G that are all zero.
 use Rattle.std.specs.Prelude.{◌≡◌, ℕ, refl, ◌*◌, ◌^◌, ◌<◌, List, [], ◌∷◌, ◌++◌, length, map, take, drop, bit_xor}
 use Rattle.std.specs.Int.{w32, rotate_right}
 use Rattle.std.proofs.lemmas.List.{take-map, drop-map, length-map}
@@ -27,13 +27,13 @@ use Rattle.air_blake3.specs.Holding.{IsLimbsOf, IsBitsOf, IsQuarterOf, HasAllBit
 use Rattle.air_blake3.proofs.WordNumbers.{bits-xor, length-xor, length-rotated, number_of-halves, low_half-lt, high_half-lt, rotated_xor}
 
 module _ {F : Type 0} (R : CommRing F) (s : Leaf → F) where
-  -- all of two lists vanish
+  -- if two joined lists vanish, each of them vanishes
   pub vanish-append : (ts us : List (Assertion F)) → AllVanish R s (ts ++ us) → AllVanish R s ts × AllVanish R s us
   vanish-append [] us h = (tt, h)
   vanish-append (Base t ∷ ts) us h = let k = vanish-append ts us h.1 in ((h.0, k.0), k.1)
   vanish-append (Extension t ∷ ts) us h = let k = vanish-append ts us h.1 in ((h.0, k.0), k.1)
 
-  -- some of a word's bits, packed
+  -- the value of some packed bits of a word
   packed_value : (f : List (Term F) → List (Term F)) (g : List F → List F) (h : List ℕ → List ℕ)
       → ((ts : List (Term F)) → g (map (value (self_algebra R) s) ts) ≡ map (value (self_algebra R) s) (f ts))
       → ((ns : List ℕ) → g (map (image R) ns) ≡ map (image R) (h ns))
@@ -44,7 +44,7 @@ module _ {F : Type 0} (R : CommRing F) (s : Leaf → F) where
       ∙ ap (binary_sum R) (sym (alike ts) ∙ ap g e ∙ alike_too bs)
       ∙ packed-images R (h bs)
 
-  -- a word's bits, packed, are its limbs
+  -- the packed bits of a word are its limbs
   pub packed_is : (ts : List (Term F)) (n : ℕ) → IsBitsOf R s ts n → IsLimbsOf R s (packed_limbs R ts) n
   packed_is ts n h = record {
     limbs = record { low = number_of (take 16 h.bits); high = number_of (drop 16 h.bits) };
@@ -56,7 +56,7 @@ module _ {F : Type 0} (R : CommRing F) (s : Leaf → F) where
     number = sym (number_of-halves h.bits h.count) ∙ h.number;
   }
 
-  -- where the terms of a xor are zero, the limbs are a word, and the new bits those of both words' xor, rotated
+  -- if the terms of a xor are zero, the limbs hold a word, and the new bits hold the rotated xor of both words
   pub xored : IsDomain R → (w : Limbs (Term F)) (ts us : List (Term F)) (n j : ℕ) → 0 < j → j < 32 → length us ≡ 32
       → IsBitsOf R s ts n → AllVanish R s (xor_asserts R w ts us j)
       → (x : ℕ) × (IsLimbsOf R s w x) × (IsBitsOf R s us (rotate_right w32 (bit_xor n x) j))
@@ -131,7 +131,7 @@ under-same (Extension t ∷ ts) = ap (λ us. Extension t ∷ us) (under-same ts)
 abbrev pub same : {F : Type 0} → List (Assertion F) → List (Assertion F)
 same ts = map_terms (λ z. z) ts
 
--- the first of two lists vanishes as it stands
+-- if two joined lists vanish, the first one mapped by the identity, each of them vanishes
 pub vanish-same : {F : Type 0} (R : CommRing F) (s : Leaf → F) (ts us : List (Assertion F)) → AllVanish R s (same ts ++ us) → AllVanish R s ts × AllVanish R s us
 vanish-same R s ts us h = let k = vanish-append R s (same ts) us h in (subst (AllVanish R s) (under-same ts) k.0, k.1)
 

@@ -1,4 +1,4 @@
--- Lists pushed one after another.
+-- Lists that are pushed one after another.
 use Rattle.std.proofs.Common.{◌≡◌, ◌+◌, ◌/◌, ◌%◌, ℕ, suc, List, [], ◌∷◌, ◌++◌, map, Result, Ok, Err, OnOk, sym, ◌∙◌, ap, append_assoc, arith}
 use Rattle.std.proofs.lemmas.List.{append-nil}
 use Rattle.air_field.specs.Ring.{CommRing, image}
@@ -6,11 +6,11 @@ use Rattle.air_author.specs.Constraints.{asserts_of_first}
 use Rattle.air_gadgets.specs.Bits.{digits_of}
 
 module _ {F : Type 0} (R : CommRing F) where
-  -- what there is, and the bits that are left
+  -- the list so far and the remaining bits
   abbrev pub with_bits : List F → ℕ → ℕ → List F
   with_bits xs k n = xs ++ map (image R) (digits_of 2 k n)
 
-  -- one more was pushed
+  -- one more bit is pushed
   pub bit_pushed : (xs : List F) (k j n : ℕ) → k ≡ suc j → with_bits (xs ++ image R (n % 2) ∷ []) j (n / 2) ≡ with_bits xs k n
   bit_pushed xs k j n e = append_assoc xs (image R (n % 2) ∷ []) (map (image R) (digits_of 2 j (n / 2))) ∙ ap (λ i. with_bits xs i n) (sym e)
 
@@ -21,7 +21,7 @@ pub on_ok : {A E : Type 0} (r : Result A E) {P Q : Type 0} → (P → Q) → OnO
 on_ok (Ok x) f h = f h
 on_ok (Err e) f h = tt
 
--- what holds anyway
+-- a fact that holds in any case
 pub on_any : {A E : Type 0} (r : Result A E) {P : Type 0} → P → OnOk r P
 on_any (Ok x) h = h
 on_any (Err e) h = tt
@@ -37,7 +37,7 @@ module _ {A : Type 0} (xs a b c d : List A) where
   pushed_4 ys zs ws vs p q r s =
       s ∙ ap (λ l. l ++ d) (r ∙ ap (λ l. l ++ c) (q ∙ ap (λ l. l ++ b) p)) ∙ joined_4
 
--- what is numbered up to a count, and one more
+-- the first n numbered lists and one more
 pub first_more : {A : Type 0} (f : ℕ → List A) (old xs : List A) (n : ℕ) → xs ≡ old ++ asserts_of_first f n → xs ++ f n ≡ old ++ asserts_of_first f (n + 1)
 first_more f old xs n e =
     let s : suc n ≡ n + 1 = omega arith in

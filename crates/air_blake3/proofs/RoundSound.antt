@@ -1,4 +1,4 @@
--- Where the terms of the rounds are zero.
+-- The consequences of rounds whose terms are all zero.
 use Rattle.std.specs.Prelude.{◌≡◌, ℕ, zero, suc, refl, ◌+◌, ◌*◌, ◌^◌, ◌<◌, ◌≤◌, List, ◌++◌, slice_index}
 use Rattle.std.proofs.Common.{subst, inl, inr, arith}
 use Rattle.std.proofs.lemmas.Bool.{cases_lt}
@@ -33,7 +33,7 @@ whole_of v = record {
   q3 = record { b = refl; d = refl };
 }
 
--- what holds at each of eight places
+-- a fact about all indices below 8, by cases
 eight_cases : (P : ℕ → Type 0) → P 0 → P 1 → P 2 → P 3 → P 4 → P 5 → P 6 → P 7 → (i : ℕ) → i < 8 → P i
 eight_cases P p0 p1 p2 p3 p4 p5 p6 p7 zero l = p0
 eight_cases P p0 p1 p2 p3 p4 p5 p6 p7 (suc zero) l = p1
@@ -46,7 +46,7 @@ eight_cases P p0 p1 p2 p3 p4 p5 p6 p7 (suc (suc (suc (suc (suc (suc (suc zero)))
 eight_cases P p0 p1 p2 p3 p4 p5 p6 p7 (suc (suc (suc (suc (suc (suc (suc (suc i)))))))) l = absurd (omega arith)
 
 module _ {F : Type 0} (R : CommRing F) (s : Leaf → F) where
-  -- all of each of the first vanish
+  -- all terms of each of the first lists are zero
   pub vanish-first : (f : ℕ → List (Assertion F)) (n : ℕ) → AllVanish R s (asserts_of_first f n) → (i : ℕ) → i < n → AllVanish R s (f i)
   vanish-first f zero h i l = absurd (omega arith)
   vanish-first f (suc n) h i l =
@@ -72,7 +72,7 @@ module _ {F : Type 0} (R : CommRing F) (s : Leaf → F) where
     q3 = record { a = h.q3.a; b = h.q2.b; c = h.q1.c; d = h.q0.d };
   }
 
-  -- the eight words that a round takes from a place on
+  -- the eight words that a round uses from an index on
   pub taken_words : (n : ℕ → ℕ) → ((i : ℕ) → i < 16 → IsBitsOf R s (bits_at (message_column i)) (n i)) → (r : ℕ)
       → ((i : ℕ) → i < 8 → IsBitsOf R s (bits_at (slice_index (eight_columns r 0) i)) (n (place_in r i)))
       × ((i : ℕ) → i < 8 → IsBitsOf R s (bits_at (slice_index (eight_columns r 8) i)) (n (place_in r (8 + i))))

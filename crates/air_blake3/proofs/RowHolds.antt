@@ -1,4 +1,4 @@
--- The row of a block holds its input, its states and its output, and so satisfies all constraints.
+-- The row of a block holds its input, its states and its output; so it satisfies all constraints.
 use Rattle.std.specs.Prelude.{◌≡◌, ℕ, refl, ◌+◌, ◌*◌, ◌^◌, ◌<◌, List, ◌++◌, length}
 use Rattle.std.proofs.Common.{sym, subst, arith}
 use Rattle.air_field.specs.Assignment.{RowValues}

@@ -1,4 +1,4 @@
--- What stands at a place of a row.
+-- The contents of a row from a column on.
 use Rattle.std.specs.Prelude.{◌≡◌, ℕ, zero, suc, refl, ◌+◌, ◌*◌, ◌%◌, ◌^◌, ◌<◌, List, [], ◌∷◌, ◌++◌, length, map, slice_index_or}
 use Rattle.std.proofs.Common.{◌∙◌, ap₂, subst, inl, inr, arith, length-append, append_assoc}
 use Rattle.std.proofs.lemmas.Bool.{cases_lt}
@@ -48,10 +48,10 @@ pub length-first : {A : Type 0} (f : ℕ → List A) (w : ℕ) → ((i : ℕ) �
 length-first f w e zero = omega arith
 length-first f w e (suc k) = length-two (asserts_of_first f k) (f k) (w * k) w (length-first f w e k) (e k) ∙ omega arith
 
--- ---- places
+-- ---- columns
 
 module _ {F : Type 0} (R : CommRing F) (row : List F) where
-  -- the list stands in the row from a place on
+  -- the row has this list from a column on
   unfoldable pub Stands : ℕ → List F → Type 0
   Stands n [] = Unit {0}
   Stands n (x ∷ xs) = (slice_index_or row n R.zero ≡ x) × Stands (n + 1) xs
@@ -67,7 +67,7 @@ module _ {F : Type 0} (R : CommRing F) (row : List F) where
   pub two_stand : (n m : ℕ) (xs ys : List F) → length xs ≡ m → Stands n (xs ++ ys) → Stands n xs × Stands (n + m) ys
   two_stand n m xs ys e h = let k = stands-append n xs ys h in (k.0, subst (λ j. Stands (n + j) ys) e k.1)
 
-  -- where a list of lists of one length stands, each of them does
+  -- if the row has a list of lists of equal length, it has each of them
   pub first_stands : (f : ℕ → List F) (w : ℕ) → ((i : ℕ) → length (f i) ≡ w) → (n k : ℕ) → Stands n (asserts_of_first f k) → (i : ℕ) → i < k → Stands (n + w * i) (f i)
   first_stands f w e n zero h i l = absurd (omega arith)
   first_stands f w e n (suc k) h i l =
@@ -158,7 +158,7 @@ module _ {F : Type 0} (R : CommRing F) where
   read_after [] xs x = refl
   read_after (y ∷ ys) xs x = read_after ys xs x
 
-  -- a list after another stands in both joined, from the other's length on
+  -- a list after another begins, in the joined list, at the other's length
   stands_after : (ys xs : List F) → Stands R (ys ++ xs) (length ys) xs
   unfolding Stands
   stands_after ys [] = tt

@@ -11,7 +11,7 @@ use Rattle.air_author.specs.Constraints.{asserts_of_first}
 use Rattle.air_blake3.proofs.Standing.{length-first}
 
 module _ {A : Type 0} (f : ℕ → List A) (w : ℕ) (lengths : (i : ℕ) → length (f i) ≡ w) where
-  -- numbered lists of one length, joined, are cut into these lists
+  -- numbered lists of equal length, when joined, are cut into these lists again
   rows_cut : (h : ℕ) → rows_of h w (asserts_of_first f h) ≡ map f (range_with_len 0 h)
   rows_cut zero = refl
   rows_cut (suc h) =
@@ -23,7 +23,7 @@ module _ {A : Type 0} (f : ℕ → List A) (w : ℕ) (lengths : (i : ℕ) → le
       ∙ sym (map-range_with_len_more f 0 h h (omega arith))
       ∙ ap (λ k. map f (range_with_len 0 k)) (sym s)
 
-  -- the matrix of numbered lists of one length, joined
+  -- the matrix of joined numbered lists of equal length
   pub matrix_cut : (h : ℕ) → 0 < w → matrix_of w (asserts_of_first f h) ≡ Ok (record { width = w; rows = map f (range_with_len 0 h) })
   matrix_cut h some =
       let count : length (asserts_of_first f h) ≡ h * w = length-first f w lengths h ∙ mul_comm w h in
@@ -35,7 +35,7 @@ module _ {A : Type 0} (f : ℕ → A) (h : ℕ) where
       let within : k < h = omega (arith, length-map-range_with_len f 0 h) in
       slice_get-get_or (map f (range_with_len 0 h)) k (f k) l ∙ ap Some (get_or-map-range_with_len f 0 h k k (f k) within (omega arith))
 
-  -- what holds of each numbered element
+  -- a fact about each numbered element
   pub each_listed : (P : A → Type 0) → ((k : ℕ) → k < h → P (f k)) → All P (map f (range_with_len 0 h))
   each_listed P each k d l =
       let within : k < h = omega (arith, length-map-range_with_len f 0 h) in

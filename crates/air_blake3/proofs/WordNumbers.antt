@@ -1,4 +1,4 @@
--- Lists of bits and the numbers that they are: joined, xored and rotated.
+-- Lists of bits and their numbers: joined, xored and rotated.
 use Rattle.std.specs.Prelude.{◌≡◌, ℕ, zero, suc, refl, ◌+◌, ◌-◌, ◌*◌, ◌/◌, ◌%◌, ◌^◌, ◌<◌, List, [], ◌∷◌, ◌++◌, length, take, drop, bit_or, bit_xor}
 use Rattle.std.specs.Int.{w32, rotate_right}
 use Rattle.std.specs.Int.Bits.{xor_block, or_shifted_r, xor_self, xor_assoc, xor_zero_l}
@@ -33,7 +33,7 @@ length-xor [] cs e = refl
 length-xor (b ∷ bs) [] e = sym e
 length-xor (b ∷ bs) (c ∷ cs) e = ap suc (length-xor bs cs (omega arith))
 
--- so many bits are a number below the power
+-- n bits are a number below 2^n
 pub number_of-lt : (bs : List ℕ) → AreBits bs → number_of bs < 2 ^ length bs
 number_of-lt [] h = omega arith
 number_of-lt (b ∷ bs) h = omega (arith, h.0, number_of-lt bs h.1, pow-suc 2 (length bs))
@@ -57,7 +57,7 @@ bit_xor-bits (suc (suc m)) n hb hc = absurd (omega arith)
 turned : (b n : ℕ) → b + 2 * n ≡ n * 2 ^ 1 + b
 turned b n = omega arith
 
--- the xor place by place is that of the numbers
+-- the bitwise xor of two lists is the xor of their numbers
 pub number_of-xor : (bs cs : List ℕ) → AreBits bs → AreBits cs → length bs ≡ length cs → number_of (xor_bits bs cs) ≡ bit_xor (number_of bs) (number_of cs)
 number_of-xor [] [] hb hc e = refl
 number_of-xor [] (c ∷ cs) hb hc e = absurd (omega arith)
@@ -70,7 +70,7 @@ number_of-xor (b ∷ bs) (c ∷ cs) hb hc e =
     ∙ sym block
     ∙ sym (ap₂ bit_xor (turned b (number_of bs)) (turned c (number_of cs)))
 
--- the halves of a word's list
+-- the two halves of a word's bits
 pub number_of-halves : (bs : List ℕ) → length bs ≡ 32 → number_of bs ≡ number_of (take 16 bs) + 2 ^ 16 * number_of (drop 16 bs)
 number_of-halves bs e =
     let n : length (take 16 bs) ≡ 16 = simp length-take (omega arith) in
@@ -89,9 +89,9 @@ high_half-lt bs h e =
 shifted_up : (high low p q w : ℕ) → p * q ≡ w → (high + p * low) * q ≡ low * w + high * q
 shifted_up high low p q w e = subst (λ x. (high + p * low) * q ≡ low * x + high * q) e (omega arith)
 
--- the number of the low 32 - s bits, and of the high s ones
+-- the number of the low 32 - s bits, and that of the high s bits
 module _ (s : ℕ) (within : s < 32) (some : 0 < s) (low high : ℕ) (fits_low : low < 2 ^ (32 - s)) (fits_high : high < 2 ^ s) where
-  -- rotated to the left, and back
+  -- the number with `high` in its low bits, rotated to the right by s
   pub rotated_back : rotate_right w32 (high + 2 ^ s * low) s ≡ low + 2 ^ (32 - s) * high
   rotated_back =
       let whole : s % 32 ≡ s = omega arith in
@@ -108,7 +108,7 @@ module _ (s : ℕ) (within : s < 32) (some : 0 < s) (low high : ℕ) (fits_low :
       ∙ or_shifted_r high (32 - s) low fits_low
       ∙ omega arith
 
--- a word's list rotated to the left is the word rotated so; rotated to the right, it is the word
+-- rotating a word's bits to the left and then the number to the right gives the word
 pub number_of-rotated : (s : ℕ) → 0 < s → s < 32 → (bs : List ℕ) → AreBits bs → length bs ≡ 32 → rotate_right w32 (number_of (rotated_left s bs)) s ≡ number_of bs
 number_of-rotated s some within bs h e =
     let low = take (32 - s) bs in
@@ -123,7 +123,7 @@ number_of-rotated s some within bs h e =
     ∙ sym (number_of-append low high)
     ∙ ap number_of (take-append-drop (32 - s) bs)
 
--- what is x xor y is y where it is xored with x again
+-- a xor with x is undone by another xor with x
 pub xor_back : (x y : ℕ) → bit_xor x (bit_xor x y) ≡ y
 xor_back x y = sym (xor_assoc x x y) ∙ ap (λ z. bit_xor z y) (xor_self x) ∙ xor_zero_l y
 
@@ -133,7 +133,7 @@ bits-rotated s bs h = bits-append (drop (32 - s) bs) (take (32 - s) bs) (bits-dr
 pub length-rotated : (s : ℕ) (bs : List ℕ) → length bs ≡ 32 → length (rotated_left s bs) ≡ 32
 length-rotated s bs e = simp (length-append, length-take, length-drop) (omega arith)
 
--- a is b xor c rotated to the left, so that c is a xor b, rotated to the right
+-- if a is b xor c rotated to the left, then c is a xor b, rotated to the right
 pub rotated_xor : (s : ℕ) → 0 < s → s < 32 → (bs cs : List ℕ) → AreBits bs → AreBits cs → length bs ≡ 32 → length cs ≡ 32
     → rotate_right w32 (bit_xor (number_of bs) (number_of (xor_bits bs (rotated_left s cs)))) s ≡ number_of cs
 rotated_xor s some within bs cs hb hc eb ec =

@@ -1,4 +1,4 @@
--- What a check of a trace of compressions says.
+-- The consequences of a check of a trace of compressions.
 use Rattle.std.specs.Prelude.{◌≡◌, ℕ, ◌*◌, ◌^◌, ◌<◌, [], length, Bool, Option, None}
 use Rattle.air_field.specs.Assignment.{row_assignment}
 use Rattle.air_field.specs.Grid.{Grid}
@@ -11,37 +11,37 @@ use Rattle.air_blake3.specs.Row.{compression}
 use Rattle.air_blake3.specs.Holding.{HoldsCompression}
 use Rattle.air_blake3.specs.Traces.{AreCompressionRows}
 
--- what a check of a trace of compressions is given
+-- `Compression` on a trace, as a check sees it
 abbrev pub compression_instance : {F : Type 0} → CommRing F → Grid F → Instance F
 compression_instance R main = instance (plain_declaration (compression R) 9168 0) main []
 
--- at each row the columns named output are the BLAKE3 compression of the columns named input
+-- at each row, the output columns hold the BLAKE3 compression of the block in the input columns
 abbrev pub AreCompressions : {F : Type 0} → CommRing F → Grid F → Type 0
 AreCompressions R main =
     (row : ℕ) → row < length main.rows
     → HoldsCompression R (row_assignment R (instance_trace (compression_instance R main)) row)
 
--- the same over a field of a great enough characteristic
+-- `AreCompressions`, over a field of large enough characteristic
 abbrev pub HoldCompressions : {F : Type 0} → CommRing F → ℕ → Grid F → Type 0
 HoldCompressions R characteristic main = 3 * 2 ^ 16 < characteristic → AreCompressions R main
 
--- an exact report without a cap that lists nothing says so of its trace
+-- if an exact report without a cap lists no failure, its trace holds compressions
 abbrev pub EmptyReportsAreSound : {F : Type 0} → CommRing F → (F → F → Bool) → ℕ → Type 0
 EmptyReportsAreSound {F} R eq characteristic =
     (main : Grid F) (report : ConstraintReport)
     → IsReport R eq (compression_instance R main) None report → report.failures.items ≡ []
     → HoldCompressions R characteristic main
 
--- every exact report on a trace, under whatever cap, lists nothing
+-- every exact report on the trace, with any cap, lists no failure
 abbrev pub ReportsListNothing : {F : Type 0} → CommRing F → (F → F → Bool) → Grid F → Type 0
 ReportsListNothing R eq main =
     (cap : Option ℕ) (report : ConstraintReport)
     → IsReport R eq (compression_instance R main) cap report → report.failures.items ≡ []
 
--- it does so where each row satisfies all constraints, whatever stands beside it
+-- reports list no failure if each row satisfies all constraints, whatever the other values at the row are
 abbrev pub ReportsAreEmpty : {F : Type 0} → CommRing F → (F → F → Bool) → F → Type 0
 ReportsAreEmpty {F} R eq none = (main : Grid F) → AreCompressionRows R none main → ReportsListNothing R eq main
 
--- the reports on a trace list nothing, over a field of a great enough characteristic
+-- reports on the trace list no failure, over a field of large enough characteristic
 abbrev pub ListNothing : {F : Type 0} → CommRing F → (F → F → Bool) → ℕ → Grid F → Type 0
 ListNothing R eq characteristic main = 3 * 2 ^ 16 < characteristic → ReportsListNothing R eq main

@@ -1,4 +1,4 @@
--- What it means that columns hold words, and what the theorems say.
+-- The words that columns hold, and the theorems.
 use Rattle.std.specs.Prelude.{◌≡◌, ℕ, ◌+◌, ◌*◌, ◌^◌, ◌<◌, List, length, map}
 use Rattle.air_field.specs.Ring.{CommRing, image, self_algebra}
 use Rattle.air_field.specs.Term.{Leaf, Term}
@@ -16,14 +16,14 @@ use Rattle.air_blake3.specs.Words.{QuarterTerms, BitTerms, StateTerms, bits_at, 
 use Rattle.air_blake3.specs.Mixing.{mix_asserts}
 use Rattle.air_blake3.specs.Row.{message_column, chaining_column, state_from, round_column, before_round, last_column, output_columns, compression}
 
--- the terms have the images of two limbs of 16 bits as their values, which are the word n
+-- the values of the terms are the images of two limbs of 16 bits, and the limbs are the word n
 pub record IsLimbsOf {F : Type 0} (R : CommRing F) (s : Leaf → F) (t : Limbs (Term F)) (n : ℕ) : Type 0 where
   pub limbs : Limbs ℕ
   pub small : AreLimbs limbs
   pub values : LimbsAre R s t limbs
   pub number : word limbs ≡ n
 
--- the terms have the images of 32 bits as their values, which are the word n
+-- the values of the terms are the images of 32 bits, and the bits are the word n
 pub record IsBitsOf {F : Type 0} (R : CommRing F) (s : Leaf → F) (ts : List (Term F)) (n : ℕ) : Type 0 where
   pub bits : List ℕ
   pub are : AreBits bits
@@ -31,7 +31,7 @@ pub record IsBitsOf {F : Type 0} (R : CommRing F) (s : Leaf → F) (ts : List (T
   pub values : map (value (self_algebra R) s) ts ≡ map (image R) bits
   pub number : number_of bits ≡ n
 
--- the terms have these four words as their values, and these sixteen
+-- the terms hold these four words, and all sixteen
 pub record IsQuarterOf {F : Type 0} (R : CommRing F) (s : Leaf → F) (t : QuarterTerms F) (q : Quarter) : Type 0 where
   pub a : IsLimbsOf R s t.a q.a
   pub b : IsBitsOf R s t.b q.b
@@ -44,7 +44,7 @@ pub record IsStateOf {F : Type 0} (R : CommRing F) (s : Leaf → F) (t : StateTe
   pub q2 : IsQuarterOf R s t.q2 v.q2
   pub q3 : IsQuarterOf R s t.q3 v.q3
 
--- the columns named input hold this block
+-- the input columns hold this block
 pub record IsInput {F : Type 0} (R : CommRing F) (s : Leaf → F) (b : Block) : Type 0 where
   pub message : (i : ℕ) → i < 16 → IsBitsOf R s (bits_at (message_column i)) (b.message i)
   pub chaining_low : (i : ℕ) → i < 4 → IsBitsOf R s (bits_at (chaining_column i)) (b.chaining i)
@@ -57,7 +57,7 @@ pub record IsInput {F : Type 0} (R : CommRing F) (s : Leaf → F) (b : Block) : 
   pub length : IsBitsOf R s (bits_at (before_round 0).q2.d) b.length
   pub flags : IsBitsOf R s (bits_at (before_round 0).q3.d) b.flags
 
--- the columns named output hold four words of a column, and all sixteen
+-- the terms hold these four words by their bits, and the output columns hold all sixteen
 pub record IsOutputOf {F : Type 0} (R : CommRing F) (s : Leaf → F) (t : BitTerms F) (q : Quarter) : Type 0 where
   pub a : IsBitsOf R s t.a q.a
   pub b : IsBitsOf R s t.b q.b
@@ -70,11 +70,11 @@ pub record IsOutput {F : Type 0} (R : CommRing F) (s : Leaf → F) (v : State) :
   pub q2 : IsOutputOf R s (bits_of (output_columns 2)) v.q2
   pub q3 : IsOutputOf R s (bits_of (output_columns 3)) v.q3
 
--- the columns named input hold a block, and the columns named output its compression
+-- the input columns hold a block, and the output columns its compression
 abbrev pub HoldsCompression : {F : Type 0} → CommRing F → (Leaf → F) → Type 0
 HoldsCompression R s = (b : Block) × (IsInput R s b) × (IsOutput R s (compress b))
 
--- The states that a row holds of a block, beside its input and output.
+-- The states of round r that a row holds for a block, besides its input and output.
 pub record HoldsStates {F : Type 0} (R : CommRing F) (s : Leaf → F) (b : Block) (r : ℕ) (m : ℕ → ℕ) : Type 0 where
   pub columns_middle : IsStateOf R s (state_of (state_from (round_column r + 272))) (columns_half (after_rounds (first_state b) b.message r) m)
   pub columns : IsStateOf R s (state_of (state_from (round_column r + 544))) (columns_mixed (after_rounds (first_state b) b.message r) m)
@@ -93,12 +93,12 @@ pub record HoldsRow {F : Type 0} (R : CommRing F) (s : Leaf → F) (b : Block) :
   pub last_3 : IsBitsOf R s (bits_at (last_column 3)) (after_rounds (first_state b) b.message 7).q3.c
   pub output : IsOutput R s (compress b)
 
--- there are 32 terms for the bits of each
+-- each word in bits has 32 terms
 pub record HasAllBits {F : Type 0} (t : QuarterTerms F) : Type 0 where
   pub b : length t.b ≡ 32
   pub d : length t.d ≡ 32
 
--- Where all terms of G are zero, the words are G of the words before.
+-- If all terms of G are zero, the words after are G of the words before.
 abbrev pub MixIsSound : {F : Type 0} → CommRing F → ℕ → Type 0
 MixIsSound {F} R characteristic =
     (t : QuarterTerms F) (m n : List (Term F)) (u v : QuarterTerms F) (s : Leaf → F) (q : Quarter) (x y : ℕ)
@@ -106,7 +106,7 @@ MixIsSound {F} R characteristic =
     → IsQuarterOf R s t q → IsBitsOf R s m x → IsBitsOf R s n y → AllVanish R s (mix_asserts R (λ z. z) t m n u v)
     → IsQuarterOf R s v (mix q x y)
 
--- Where the words are G of those before, by way of its first half, all terms of G are zero.
+-- If the words after are G of the words before, with its first half in between, all terms of G are zero.
 abbrev pub MixIsComplete : {F : Type 0} → CommRing F → ℕ → Type 0
 MixIsComplete {F} R characteristic =
     (t : QuarterTerms F) (m n : List (Term F)) (u v : QuarterTerms F) (s : Leaf → F) (q : Quarter) (x y : ℕ)
@@ -114,13 +114,13 @@ MixIsComplete {F} R characteristic =
     → IsQuarterOf R s u (half_mix 16 12 q x) → IsQuarterOf R s v (mix q x y)
     → AllVanish R s (mix_asserts R (λ z. z) t m n u v)
 
--- Where all terms are zero, a row holds a block and its compression.
+-- If all terms are zero at a row, it holds a block and its compression.
 abbrev pub CompressionIsSound : {F : Type 0} → CommRing F → ℕ → Type 0
 CompressionIsSound {F} R characteristic =
     (s : Leaf → F) → IsDomain R → 3 * 2 ^ 16 < characteristic → AllVanish R s (compression R)
     → HoldsCompression R s
 
--- Where a row holds a block, its states and its compression, all terms are zero.
+-- If a row holds a block, its states and its compression, all terms are zero.
 abbrev pub CompressionIsComplete : {F : Type 0} → CommRing F → ℕ → Type 0
 CompressionIsComplete {F} R characteristic =
     (s : Leaf → F) (b : Block) → IsDomain R → 3 * 2 ^ 16 < characteristic → HoldsRow R s b

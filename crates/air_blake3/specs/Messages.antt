@@ -6,11 +6,11 @@ use Rattle.blake3.specs.Hashing.{block_at, block_count, chaining_value_after, fi
 use Rattle.air_blake3.specs.Traces.{block_in}
 use Rattle.air_blake3.specs.declared.blocks.InputBlock.{InputBlock}
 
--- the blocks of a message in order, each after the chaining value that those before it leave
+-- the blocks of a message, in order, each with the chaining value after the blocks before it
 abbrev pub blocks_of : List ℕ → List Block
 blocks_of bytes = map (λ k. block_at bytes k (chaining_value_after bytes k)) (range_with_len 0 (block_count (length bytes)))
 
--- the first eight words of the last block's output are these
+-- the first eight words of the last block's output are `digest`
 abbrev pub EndsWith : List ℕ → List InputBlock → Type 0
 EndsWith digest blocks =
     HoldsAt (λ block. first_words (compress (block_in block)) ≡ digest) blocks (length blocks - 1)

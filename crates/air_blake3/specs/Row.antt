@@ -1,4 +1,4 @@
--- The columns of one compression a row, and what is asserted of them.
+-- The columns of one compression in a row, and the assertions about them.
 use Rattle.std.specs.Prelude.{ℕ, ◌+◌, ◌*◌, ◌/◌, ◌%◌, ◌^◌, List, [], ◌∷◌, ◌++◌, slice_index}
 use Rattle.air_field.specs.Algebra.{xor_term}
 use Rattle.air_field.specs.Ring.{CommRing, image}
@@ -16,14 +16,14 @@ use Rattle.air_blake3.specs.Mixing.{mix_asserts}
 
 -- ---- columns
 
--- where the bits of a word of the message begin, and of the chaining value's first four
+-- the columns where the bits of word i of the message begin, and of word i of the chaining value, for i below 4
 abbrev pub message_column : ℕ → ℕ
 message_column i = 32 * i
 
 abbrev pub chaining_column : ℕ → ℕ
 chaining_column i = 512 + 32 * i
 
--- 68 columns of four words from one on, and 272 of the sixteen
+-- 68 columns for four words, from column `first` on, and 272 for all sixteen
 abbrev pub quarter_from : ℕ → Quarter
 quarter_from first = record { a = first; b = first + 2; c = first + 34; d = first + 36 }
 
@@ -35,21 +35,21 @@ state_from first = record {
   q3 = quarter_from (first + 204);
 }
 
--- the state before a round stands there by its diagonals
+-- the state before a round, in the columns of its diagonals
 abbrev pub round_column : ℕ → ℕ
 round_column r = 640 + 1088 * r
 
 abbrev pub before_round : ℕ → State
 before_round r = from_diagonals (state_from (round_column r))
 
--- where the bits of the word c of a column of the last state begin, and those of four words of the output
+-- the columns where the bits of word c of column i of the last state begin, and of four words of the output
 abbrev pub last_column : ℕ → ℕ
 last_column i = 8528 + 32 * i
 
 abbrev pub output_columns : ℕ → Quarter
 output_columns i = record { a = 8656 + 32 * i; b = 8784 + 32 * i; c = 8912 + 32 * i; d = 9040 + 32 * i }
 
--- the columns of the eight words of the message that a round takes from a place on
+-- the columns of the eight words of the message that a round uses from an index on
 abbrev pub eight_columns : ℕ → ℕ → List ℕ
 eight_columns r from =
     message_column (place_in r (from + 0)) ∷ message_column (place_in r (from + 1)) ∷
@@ -57,9 +57,9 @@ eight_columns r from =
     message_column (place_in r (from + 4)) ∷ message_column (place_in r (from + 5)) ∷
     message_column (place_in r (from + 6)) ∷ message_column (place_in r (from + 7)) ∷ []
 
--- ---- what is asserted
+-- ---- assertions
 
--- w is v with its columns mixed, by way of u, with eight words of the message that begin at these columns
+-- w is v with its columns mixed, with u in between and the eight words of the message at the columns m
 unfoldable pub columns_asserts : {F : Type 0} → CommRing F → (Term F → Term F) → StateTerms F → List ℕ → StateTerms F → StateTerms F → List (Assertion F)
 columns_asserts R f v m u w =
     mix_asserts R f v.q0 (bits_at (slice_index m 0)) (bits_at (slice_index m 1)) u.q0 w.q0 ++
@@ -67,28 +67,28 @@ columns_asserts R f v m u w =
     (mix_asserts R f v.q2 (bits_at (slice_index m 4)) (bits_at (slice_index m 5)) u.q2 w.q2 ++
     mix_asserts R f v.q3 (bits_at (slice_index m 6)) (bits_at (slice_index m 7)) u.q3 w.q3))
 
--- a round: the columns of the state before it are mixed, and then the diagonals
+-- a round: mixes the columns of the state before it, and then the diagonals
 unfoldable pub round_at : {F : Type 0} → CommRing F → (Term F → Term F) → ℕ → List (Assertion F)
 round_at R f r =
     let first = round_column r in
     columns_asserts R f (state_of (before_round r)) (eight_columns r 0) (state_of (state_from (first + 272))) (state_of (state_from (first + 544))) ++
     columns_asserts R f (state_of (diagonals (state_from (first + 544)))) (eight_columns r 8) (state_of (state_from (first + 816))) (state_of (state_from (first + 1088)))
 
--- both limbs are those
+-- the limbs of t equal those of u
 abbrev pub limbs_are : {F : Type 0} → Limbs (Term F) → Limbs (Term F) → List (Assertion F)
 limbs_are t u = (t.low ≐ u.low) ++ (t.high ≐ u.high)
 
 abbrev pub constant_limbs : {F : Type 0} → CommRing F → ℕ → Limbs (Term F)
 constant_limbs R n = record { low = constant (image R (n % 2 ^ 16)); high = constant (image R (n / 2 ^ 16)) }
 
--- each of the last list is the xor of those at its place
+-- each element of the last list is the xor of the two at the same index
 abbrev pub xors_are : {F : Type 0} → List (Term F) → List (Term F) → List (Term F) → List (Assertion F)
 xors_are [] us vs = []
 xors_are (t ∷ ts) [] vs = []
 xors_are (t ∷ ts) (u ∷ us) [] = []
 xors_are (t ∷ ts) (u ∷ us) (v ∷ vs) = (v ≐ xor_term t u) ++ xors_are ts us vs
 
--- a column of the first state: its word a is that of some bits, its words b and d are made of bits, its word c is constant
+-- a column of the first state: word a equals the bits `low`; those bits, and the words b and d, are bits; word c is the constant n
 unfoldable pub first_asserts : {F : Type 0} → CommRing F → (Term F → Term F) → QuarterTerms F → List (Term F) → ℕ → List (Assertion F)
 first_asserts R f q low n =
     map_terms f (test_asserts R low) ++
@@ -105,7 +105,7 @@ first_at R f =
     (first_asserts R f v.q2 (bits_at (chaining_column 2)) 0x3C6EF372 ++
     first_asserts R f v.q3 (bits_at (chaining_column 3)) 0xA54FF53A))
 
--- a column of the output, of one of the last state, the bits of its word c, and two words of the chaining value
+-- a column of the output, from a column of the last state, the bits of its word c, and two words of the chaining value
 unfoldable pub output_asserts : {F : Type 0} → CommRing F → (Term F → Term F) → QuarterTerms F → List (Term F) → List (Term F) → List (Term F) → BitTerms F → List (Assertion F)
 output_asserts R f q bits low high out =
     (map_terms f (test_asserts R bits) ++ map_terms f (limbs_are q.c (packed_limbs R bits))) ++
@@ -123,11 +123,11 @@ output_at R f =
     (output_asserts R f w.q2 (bits_at (last_column 2)) (bits_at (chaining_column 2)) v.q2.b (bits_of (output_columns 2)) ++
     output_asserts R f w.q3 (bits_at (last_column 3)) (bits_at (chaining_column 3)) v.q3.b (bits_of (output_columns 3))))
 
--- a word of the message is made of bits
+-- a word of the message consists of bits
 unfoldable pub message_at : {F : Type 0} → CommRing F → (Term F → Term F) → ℕ → List (Assertion F)
 message_at R f i = map_terms f (test_asserts R (bits_at (message_column i)))
 
--- one compression a row
+-- one compression in each row
 abbrev pub compression : {F : Type 0} → CommRing F → List (Assertion F)
 compression R =
     asserts_of_first (message_at R (λ z. z)) 16 ++

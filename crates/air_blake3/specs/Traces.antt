@@ -8,7 +8,7 @@ use Rattle.blake3.specs.Compression.{Block}
 use Rattle.air_blake3.specs.Values.{block_row, IsCompressionRow}
 use Rattle.air_blake3.specs.declared.blocks.InputBlock.{InputBlock}
 
--- a block of the code as one of the definition
+-- an `InputBlock` of the code as a `Block` of the definition
 abbrev pub block_in : InputBlock → Block
 block_in b = record {
   chaining = slice_index b.chaining;
@@ -30,7 +30,7 @@ zero_block = record {
   flags = 0;
 }
 
--- the block of a row: past the last block, that one again, and where there is none, the block of zeros
+-- the block of a row: rows past the last block repeat it; without any block, the zero block
 abbrev pub block_for : List InputBlock → ℕ → InputBlock
 block_for blocks row = slice_index_or blocks (min row (length blocks - 1)) zero_block
 
@@ -39,14 +39,14 @@ abbrev pub HoldBlocks : {F : Type 0} → CommRing F → List InputBlock → Grid
 HoldBlocks R blocks main =
     (row : ℕ) → row < length main.rows → slice_get main.rows row ≡ Some (block_row R (block_in (block_for blocks row)))
 
--- each row satisfies all constraints, whatever stands beside it
+-- each row satisfies all constraints, whatever the other values at the row are
 abbrev pub AreCompressionRows : {F : Type 0} → CommRing F → F → Grid F → Type 0
 AreCompressionRows R none main = All (IsCompressionRow R none) main.rows
 
--- the same over a field of a great enough characteristic
+-- `AreCompressionRows`, over a field of large enough characteristic
 abbrev pub SatisfyAll : {F : Type 0} → CommRing F → F → ℕ → Grid F → Type 0
 SatisfyAll R none characteristic main = 3 * 2 ^ 16 < characteristic → AreCompressionRows R none main
 
--- the values of the least power of two of rows that isn't below so many blocks pass `usize`
+-- the trace of this many blocks, padded to a power of two of rows, has too many values for `usize`
 abbrev pub IsTooMany : ℕ → Type 0
 IsTooMany blocks = (rows : ℕ) × IsNextPowerOfTwo blocks rows × (2 ^ 64 ≤ rows * 9168)

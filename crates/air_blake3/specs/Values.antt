@@ -1,4 +1,4 @@
--- The row of a block: the values of its columns.
+-- The row of a block, as the values of its columns.
 use Rattle.std.specs.Prelude.{ℕ, ◌+◌, ◌*◌, ◌/◌, ◌%◌, ◌^◌, ◌<◌, List, [], ◌∷◌, ◌++◌, map}
 use Rattle.air_field.specs.Assignment.{RowValues, leaf_value}
 use Rattle.air_field.specs.Ring.{CommRing, image}
@@ -11,14 +11,14 @@ use Rattle.blake3.specs.declared.words.Quarter.{Quarter}
 use Rattle.blake3.specs.declared.words.State.{State}
 use Rattle.air_blake3.specs.Row.{compression}
 
--- a word's bits, and its limbs
+-- the bits of a word, and its limbs
 abbrev pub bit_values : {F : Type 0} → CommRing F → ℕ → List F
 bit_values R n = map (image R) (digits_of 2 32 n)
 
 abbrev pub limb_values : {F : Type 0} → CommRing F → ℕ → List F
 limb_values R n = image R (n % 2 ^ 16) ∷ image R (n / 2 ^ 16) ∷ []
 
--- four words of a column of the state, and all sixteen
+-- the four words of a column of the state, and all sixteen
 unfoldable pub quarter_values : {F : Type 0} → CommRing F → Quarter → List F
 quarter_values R q = ((limb_values R q.a ++ bit_values R q.b) ++ limb_values R q.c) ++ bit_values R q.d
 
@@ -42,7 +42,7 @@ output_values R o =
     ++ four_bits R o.q0.c o.q1.c o.q2.c o.q3.c)
     ++ four_bits R o.q0.d o.q1.d o.q2.d o.q3.d
 
--- what stands before the rounds, and the row of a block
+-- the values before the rounds, and the whole row of a block
 unfoldable pub input_values : {F : Type 0} → CommRing F → Block → List F
 input_values R b =
     (asserts_of_first (λ i. bit_values R (b.message i)) 16 ++ asserts_of_first (λ i. bit_values R (b.chaining i)) 4)
@@ -56,11 +56,11 @@ block_row R b =
     ++ four_bits R v.q0.c v.q1.c v.q2.c v.q3.c)
     ++ output_values R (compress b)
 
--- the row satisfies all constraints, whatever stands beside it
+-- the row satisfies all constraints, whatever the other values at the row are
 abbrev pub IsCompressionRow : {F : Type 0} → CommRing F → F → List F → Type 0
 IsCompressionRow {F} R none row =
     (beside : RowValues F) → AllVanish R (leaf_value none (record beside { current = row })) (compression R)
 
--- the same over a field of a great enough characteristic
+-- `IsCompressionRow`, over a field of large enough characteristic
 abbrev pub SatisfiesAll : {F : Type 0} → CommRing F → F → ℕ → List F → Type 0
 SatisfiesAll R none characteristic row = 3 * 2 ^ 16 < characteristic → IsCompressionRow R none row

@@ -1,7 +1,7 @@
-//! What rows compress.
+//! The blocks that rows compress.
 
-/// What a row compresses: the chaining value, the message, the two halves of the counter, the length of the block and
-/// the flags.
+/// The input of a row's compression: the chaining value, the message, the two halves of the counter, the length of the
+/// block and the flags.
 #[derive(Clone, Copy, Drop)]
 pub struct InputBlock {
     pub chaining: [u32; 8],

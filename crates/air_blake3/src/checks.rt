@@ -10,24 +10,25 @@ use air_field::{Field, PrimeField, RowMajorMatrix};
 use air_report::check_all_constraints;
 use std::alloc::Global;
 
-/// Every exact report on a trace, under whatever cap, lists nothing, where each row satisfies all constraints whatever
-/// stands beside it: as each row of `trace_of_blocks` does. So a check of such a trace, and an audit, lists nothing.
+/// If each row of a trace satisfies all constraints, whatever the other values at the row are, as does each row of
+/// `trace_of_blocks`, then every exact report on the trace, with any cap, lists no failure. So neither a check nor an
+/// audit of such a trace lists one.
 pub fn report_is_empty<F: Field>()
     ensures { ReportsAreEmpty F.ring F.eq F.ZERO }
 {}
 
-/// An exact report without a cap that lists nothing says that at each row the columns named output hold the BLAKE3
-/// compression of the columns named input, over a field whose characteristic is above 3 · 2^16: the report of a check,
-/// and that of an audit, which `audit_air_with_cap` promises is exact.
+/// If an exact report without a cap lists no failure, then at each row the output columns hold the BLAKE3 compression
+/// of the block in the input columns, over a field whose characteristic is above 3 · 2^16. The report of a check is
+/// exact, and so is that of an audit, by the contract of `audit_air_with_cap`.
 pub fn empty_report_is_sound<F: PrimeField>()
     ensures { EmptyReportsAreSound F.ring F.eq F.CHARACTERISTIC }
 {
     compression_is_sound::<F>();
 }
 
-/// Whether a check of the trace lists no failure. If it lists none, at each row the columns named output hold the
-/// BLAKE3 compression of the columns named input, over a field whose characteristic is above 3 · 2^16. Where each row
-/// satisfies all constraints, whatever stands beside it, the check lists none.
+/// Whether a check of the trace lists no failure. If it lists none, then at each row the output columns hold the BLAKE3
+/// compression of the block in the input columns, over a field whose characteristic is above 3 · 2^16. If each row
+/// satisfies all constraints, whatever the other values at the row are, the check lists none.
 pub fn are_compressions<F: PrimeField + 'static>(
     alloc: Global,
     trace: &RowMajorMatrix<F>,

@@ -1,11 +1,11 @@
-//! Where the words of a row begin. A state of columns has, in place of each word, the column that it begins at.
+//! The columns where the words of a row begin. A `State` or `Quarter` of columns has, for each word, its first column.
 ghost use Rattle.std.specs.Prelude.{◌≡◌, ◌+◌, ◌*◌, ◌<◌, ◌≤◌, ◌^◌};
 ghost use Rattle.air_blake3.specs.Row.{eight_columns, message_column, output_columns, quarter_from, state_from};
 ghost use Rattle.blake3.specs.Compression.{place_in};
 
 use blake3::{Quarter, State, place_of};
 
-/// Four words from a column on: 68 columns.
+/// The columns of four words, 68 columns from `first` on.
 fn quarter_at(first: u32) -> Quarter
     requires { first ≤ 2 ^ 16 }
     ensures { result ≡ quarter_from first }
@@ -18,7 +18,7 @@ fn quarter_at(first: u32) -> Quarter
     }
 }
 
-/// The sixteen words of a state: 272 columns.
+/// The columns of the sixteen words of a state, 272 columns from `first` on.
 pub(crate) fn state_at(first: u32) -> State
     requires { first ≤ 2 ^ 15 }
     ensures { result ≡ state_from first }
@@ -31,7 +31,7 @@ pub(crate) fn state_at(first: u32) -> State
     }
 }
 
-/// The word of the message that a round takes at a place.
+/// The column of the message's word that a round uses at an index.
 fn word_at(round: usize, index: usize) -> u32
     requires { index < 16 }
     ensures { result ≡ message_column (place_in round index) }
@@ -39,7 +39,7 @@ fn word_at(round: usize, index: usize) -> u32
     32 * place_of(round, index) as u32
 }
 
-/// Eight of them, from a place on.
+/// The columns of eight such words, from an index on.
 pub(crate) fn eight_from(round: usize, from: usize) -> [u32; 8]
     requires { from ≤ 8 }
     ensures { result ≡ eight_columns round from }
@@ -56,7 +56,7 @@ pub(crate) fn eight_from(round: usize, from: usize) -> [u32; 8]
     ]
 }
 
-/// The four words of the output that a column of the last state gives.
+/// The columns of the four words of the output that come from a column of the last state.
 pub(crate) fn output_from(index: u32) -> Quarter
     requires { index < 4 }
     ensures { result ≡ output_columns index }

@@ -1,4 +1,4 @@
-//! One compression a row.
+//! The AIR, with one compression in each row.
 ghost use Rattle.air_builder.specs.Declaration.{plain_declaration};
 ghost use Rattle.air_blake3.specs.Row.{compression};
 
@@ -9,7 +9,7 @@ use air_builder::{Air, AirBuilder, AirError, BaseAir};
 use air_core::BoundaryPublic;
 use air_field::{Field, RowMajorMatrix};
 
-/// One compression a row: 9,168 columns, whose places are in the crate's README.
+/// One compression in each row of 9,168 columns, whose layout is in the crate's README.
 pub struct Compression {}
 
 impl<F: Field> BaseAir<F> for Compression {

@@ -1,4 +1,4 @@
-//! What stands before the rounds, and after them.
+//! The columns before the rounds, and after them.
 ghost use Rattle.std.specs.Prelude.{◌≡◌, ◌*◌, ◌<◌};
 ghost use Rattle.air_blake3.specs.Words.{bits_at, bits_of, quarter_of};
 ghost use Rattle.air_blake3.specs.Row.{chaining_column, first_asserts, first_at, last_column, message_at, output_asserts, output_at, output_columns};
@@ -10,7 +10,7 @@ use air_builder::AirBuilder;
 use air_gadgets::{Rotated, Word, Xor32Shift};
 use blake3::{Quarter, State};
 
-/// The words of the message are made of bits.
+/// The words of the message consist of bits.
 #[derive(Clone, Copy, Drop)]
 pub(crate) struct Message {}
 
@@ -34,7 +34,8 @@ impl<AB: AirBuilder> Family<AB> for Message {
     }
 }
 
-/// A column of the first state: its word a is that of the bits from a column on, and its word c is constant.
+/// A column of the first state: its word a equals the word whose bits begin at column `low`, and its word c is
+/// constant.
 #[derive(Clone, Copy, Drop)]
 struct FirstColumn {
     words: Quarter,
@@ -90,7 +91,8 @@ impl<AB: AirBuilder> Constraint<AB> for First {
     }
 }
 
-/// A column of the output: of one of the last state, the bits of its word c, and two words of the chaining value.
+/// A column of the output, from a column of the last state, the bits of its word c, and two words of the chaining
+/// value.
 #[derive(Clone, Copy, Drop)]
 struct OutputColumn {
     words: Quarter,

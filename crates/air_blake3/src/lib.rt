@@ -1,5 +1,5 @@
-//! BLAKE3's compression function as an AIR, one compression a row; how rows and whole traces of it are made, and what a
-//! check of a trace says of each row.
+//! BLAKE3's compression function as an AIR, with one compression in each row; the construction of rows and whole
+//! traces; and the consequences of a check for each row of a trace.
 #![tactic(auto)]
 
 pub mod blocks;

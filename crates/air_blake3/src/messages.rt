@@ -11,7 +11,7 @@ use blake3::{
 };
 use std::alloc::{AllocError, Global};
 
-/// A block of a message, after a chaining value.
+/// A block of a message, with its chaining value.
 fn block_after(message: &[u8], index: usize, chaining: [u32; 8]) -> InputBlock
     requires bytes { length message.now ≤ 2 ^ 10 }
     requires index { index < block_count (length message.now) }
@@ -40,8 +40,8 @@ fn chaining_after(block: &InputBlock) -> [u32; 8]
     first_words(compress(&block.chaining, &block.message, &rest))
 }
 
-/// The blocks of a message of at most 1,024 bytes, in order, each with the chaining value that those before it leave.
-/// The first eight words of the last one's output are the message's digest.
+/// The blocks of a message of at most 1,024 bytes, in order, each with the chaining value after the blocks before it.
+/// The first eight words of the last block's output are the message's digest.
 pub fn blocks_of_message(alloc: Global, message: &[u8]) -> Result<Vec<InputBlock>, AllocError>
     requires { length message.now ≤ 2 ^ 10 }
     ensures blocks { IfOk result (λ blocks. map block_in blocks.items ≡ blocks_of message.now) }

@@ -1,4 +1,4 @@
-//! G, the mixing of four words. Each number is the column at which a word begins.
+//! G, the mixing of four words. Each number is the first column of a word.
 ghost use Rattle.air_blake3.specs.Words.{bits_at, quarter_of, map_terms};
 ghost use Rattle.air_blake3.specs.Mixing.{half_mix_asserts, mix_asserts};
 
@@ -8,7 +8,7 @@ use air_builder::AirBuilder;
 use air_gadgets::{Rotated, Word, Xor32Shift};
 use blake3::Quarter;
 
-/// The words after are the first half of G of those before, with a word of the message.
+/// The words `after` are the first half of G on the words `before`, with a word of the message.
 #[derive(Clone, Copy, Drop)]
 struct FirstHalf {
     before: Quarter,
@@ -51,7 +51,7 @@ impl<AB: AirBuilder> Constraint<AB> for FirstHalf {
     }
 }
 
-/// The same of the second half.
+/// The words `after` are the second half of G on the words `before`, with a word of the message.
 #[derive(Clone, Copy, Drop)]
 struct SecondHalf {
     before: Quarter,
@@ -94,7 +94,7 @@ impl<AB: AirBuilder> Constraint<AB> for SecondHalf {
     }
 }
 
-/// The words after are G of those before, by way of those in the middle, with two words of the message.
+/// The words `after` are G on the words `before`, with the words `middle` in between and two words of the message.
 #[derive(Clone, Copy, Drop)]
 pub(crate) struct Mix {
     pub(crate) before: Quarter,

@@ -9,7 +9,8 @@ use air_author::{AirResult, Condition, Constraint, Family};
 use air_builder::AirBuilder;
 use blake3::State;
 
-/// The state after is that before with G of each column, by way of that in the middle, with eight words of the message.
+/// The state `after` is G on each column of `before`, with the state `middle` in between and eight words of the
+/// message.
 #[derive(Clone, Copy, Drop)]
 struct Columns {
     before: State,

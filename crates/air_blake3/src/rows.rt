@@ -12,7 +12,7 @@ use air_field::{Field, PrimeField};
 use blake3::{State, columns_half, columns_whole, eight_words, first_state, outputs};
 use std::alloc::Global;
 
-/// The columns mixed: the state between and the state after are pushed.
+/// Mixes the columns, and pushes the state in between and the state after.
 fn push_columns<F: Field>(values: &mut Vec<F>, v: State, m: &[u32; 8]) -> Pushed<State>
     ensures mixed { IfOk result (λ w. w ≡ columns_mixed v (slice_index m.now)) }
     ensures pushed { OnOk result (values.new.items ≡ values.old.items
@@ -25,7 +25,7 @@ fn push_columns<F: Field>(values: &mut Vec<F>, v: State, m: &[u32; 8]) -> Pushed
     Ok(whole)
 }
 
-/// A round: its four states are pushed.
+/// Computes a round, and pushes its four states.
 fn push_round<F: Field>(
     values: &mut Vec<F>,
     v: State,
@@ -43,7 +43,7 @@ fn push_round<F: Field>(
     Ok(last.from_diagonals())
 }
 
-/// All rounds: the states after the first are pushed.
+/// Computes all rounds, and pushes the states after the first.
 fn push_rounds<F: Field>(values: &mut Vec<F>, v: State, message: &[u32; 16]) -> Pushed<State>
     ensures last { IfOk result (λ w. w ≡ after_rounds v (slice_index message.now) 7) }
     ensures pushed { OnOk result (values.new.items ≡ values.old.items ++ asserts_of_first
@@ -57,7 +57,7 @@ fn push_rounds<F: Field>(values: &mut Vec<F>, v: State, message: &[u32; 16]) -> 
     Ok(state)
 }
 
-/// What stands before the rounds: the message, the first four words of the chaining value, and the first state.
+/// Pushes the columns before the rounds: the message, the first four words of the chaining value, and the first state.
 fn push_input<F: Field>(
     values: &mut Vec<F>,
     chaining: &[u32; 8],
@@ -72,7 +72,7 @@ fn push_input<F: Field>(
     push_state(values, first_state(chaining, message, rest).diagonals())
 }
 
-/// The row of a block is pushed.
+/// Pushes the row of a block.
 pub(crate) fn push_row<F: Field>(
     values: &mut Vec<F>,
     chaining: &[u32; 8],
@@ -89,8 +89,8 @@ pub(crate) fn push_row<F: Field>(
     push_output(values, outputs(last, chaining))
 }
 
-/// The row of a block, of its chaining value, its message, and the two halves of the counter, the length and the flags.
-/// Over a field whose characteristic is above 3 · 2^16 it satisfies all constraints of `Compression`.
+/// The row of a block, from its chaining value, its message, and `rest`: the two halves of the counter, the length and
+/// the flags. Over a field whose characteristic is above 3 · 2^16, it satisfies all constraints of `Compression`.
 pub fn row_of_block<F: PrimeField>(
     alloc: Global,
     chaining: &[u32; 8],

@@ -15,12 +15,12 @@ use crate::values::Pushed;
 use air_field::{Field, PrimeField, RowMajorMatrix};
 use std::alloc::{AllocError, Global};
 
-/// Why a trace isn't made.
+/// Why there is no trace.
 #[derive(Clone, Copy, Debug, Drop)]
 pub enum TraceError {
-    /// A growth was refused.
+    /// Out of memory.
     Memory,
-    /// The values of so many rows pass `usize`.
+    /// The number of the trace's values doesn't fit `usize`.
     TooManyRows,
 }
 
@@ -32,7 +32,7 @@ impl From<AllocError> for TraceError {
     }
 }
 
-/// The number of rows for so many blocks: the least power of two that isn't below.
+/// The number of rows for this number of blocks: the next power of two.
 fn row_count(blocks: usize) -> Result<usize, TraceError>
     ensures rows { IfOk result (IsNextPowerOfTwo blocks) }
     ensures fits { IfOk result (λ rows. rows * 9168 < 2 ^ 64) }
@@ -50,7 +50,7 @@ fn row_count(blocks: usize) -> Result<usize, TraceError>
     }
 }
 
-/// The block of a row: past the last one, that one again, and where there is none, the block of zeros.
+/// The block of a row: rows past the last block repeat it; without any block, the zero block.
 fn block_for(blocks: &[InputBlock], row: usize) -> InputBlock
     ensures { result ≡ block_for blocks.now row }
 {
@@ -61,7 +61,7 @@ fn block_for(blocks: &[InputBlock], row: usize) -> InputBlock
     }
 }
 
-/// The first rows, so many, are pushed.
+/// Pushes the first `rows` rows.
 fn push_rows<F: Field>(values: &mut Vec<F>, blocks: &[InputBlock], rows: usize) -> Pushed
     ensures pushed { OnOk result (values.new.items ≡ values.old.items ++ asserts_of_first
         (λ i. block_row F.ring (block_in (block_for blocks.now i))) rows) }
@@ -81,13 +81,15 @@ fn push_rows<F: Field>(values: &mut Vec<F>, blocks: &[InputBlock], rows: usize) 
     Ok(())
 }
 
-/// The trace of blocks: row i holds block i, and the rows past the last block hold that one again, up to a power of
-/// two. Without a block there is one row, of the block of zeros. Over a field whose characteristic is above 3 · 2^16
-/// each row satisfies all constraints of `Compression`, whatever stands beside it, so that no check and no audit of the
-/// trace lists anything.
+/// The trace of blocks: row i holds block i. The rows past the last block, up to a power of two, repeat it. Without a
+/// block there is one row, of the zero block. Over a field whose characteristic is above 3 · 2^16, each row satisfies
+/// all constraints of `Compression`, whatever the other values at the row are; so no check and no audit of the trace
+/// lists a failure.
 ///
-/// It refuses with `TooManyRows`, before it takes memory, where the trace's values pass `usize`, and else want of
-/// memory.
+/// # Errors
+///
+/// `TooManyRows`, only if the number of the trace's values doesn't fit `usize`, which is tested before any memory is
+/// taken; otherwise `Memory`.
 pub fn trace_of_blocks<F: PrimeField>(
     alloc: Global,
     blocks: &[InputBlock],

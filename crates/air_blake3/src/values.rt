@@ -1,4 +1,4 @@
-//! The values of words in a row, pushed one after another.
+//! Pushing the values of words in a row.
 ghost use Rattle.std.specs.Prelude.{◌≡◌, ◌++◌, ◌≤◌, OnOk, length, slice_index};
 ghost use Rattle.air_author.specs.Constraints.{asserts_of_first};
 ghost use Rattle.air_blake3.specs.Values.{bit_values, four_bits, limb_values, output_values, quarter_values, state_values};
@@ -7,10 +7,10 @@ use air_field::Field;
 use blake3::{Quarter, State};
 use std::alloc::AllocError;
 
-/// What pushing values answers.
+/// The result of pushing values.
 pub(crate) type Pushed<T = ()> = Result<T, AllocError>;
 
-/// The bits of a word, the lowest first.
+/// Pushes the bits of a word, the lowest first.
 pub(crate) fn push_bits<F: Field>(values: &mut Vec<F>, word: u32) -> Pushed
     ensures { OnOk result (values.new.items ≡ values.old.items ++ bit_values F.ring word) }
 {
@@ -22,7 +22,7 @@ pub(crate) fn push_bits<F: Field>(values: &mut Vec<F>, word: u32) -> Pushed
     Ok(())
 }
 
-/// The limbs of a word, the lower first.
+/// Pushes the limbs of a word, the lower first.
 fn push_limbs<F: Field>(values: &mut Vec<F>, word: u32) -> Pushed
     ensures { OnOk result (values.new.items ≡ values.old.items ++ limb_values F.ring word) }
 {
@@ -31,7 +31,7 @@ fn push_limbs<F: Field>(values: &mut Vec<F>, word: u32) -> Pushed
     Ok(())
 }
 
-/// Four words of a column of the state: two by their limbs, and two by their bits.
+/// Pushes the four words of a column of the state: two by their limbs, and two by their bits.
 fn push_quarter<F: Field>(values: &mut Vec<F>, q: Quarter) -> Pushed
     ensures { OnOk result (values.new.items ≡ values.old.items ++ quarter_values F.ring q) }
 {
@@ -41,7 +41,7 @@ fn push_quarter<F: Field>(values: &mut Vec<F>, q: Quarter) -> Pushed
     push_bits(values, q.d)
 }
 
-/// A state.
+/// Pushes a state.
 pub(crate) fn push_state<F: Field>(values: &mut Vec<F>, v: State) -> Pushed
     ensures { OnOk result (values.new.items ≡ values.old.items ++ state_values F.ring v) }
 {
@@ -51,7 +51,7 @@ pub(crate) fn push_state<F: Field>(values: &mut Vec<F>, v: State) -> Pushed
     push_quarter(values, v.q3)
 }
 
-/// The bits of so many words.
+/// Pushes the bits of the first `count` words.
 pub(crate) fn push_words<F: Field>(values: &mut Vec<F>, words: &[u32], count: usize) -> Pushed
     requires { count ≤ length words.now }
     ensures { OnOk result (values.new.items ≡ values.old.items ++ asserts_of_first
@@ -63,7 +63,7 @@ pub(crate) fn push_words<F: Field>(values: &mut Vec<F>, words: &[u32], count: us
     Ok(())
 }
 
-/// The bits of four words.
+/// Pushes the bits of four words.
 pub(crate) fn push_four<F: Field>(values: &mut Vec<F>, a: u32, b: u32, c: u32, d: u32) -> Pushed
     ensures { OnOk result (values.new.items ≡ values.old.items ++ four_bits F.ring a b c d) }
 {
@@ -73,7 +73,7 @@ pub(crate) fn push_four<F: Field>(values: &mut Vec<F>, a: u32, b: u32, c: u32, d
     push_bits(values, d)
 }
 
-/// The bits of the sixteen words of the output, word after word.
+/// Pushes the bits of the sixteen words of the output, word after word.
 pub(crate) fn push_output<F: Field>(values: &mut Vec<F>, o: State) -> Pushed
     ensures { OnOk result (values.new.items ≡ values.old.items ++ output_values F.ring o) }
 {

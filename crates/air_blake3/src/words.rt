@@ -1,4 +1,4 @@
-//! Words of the row as expressions, by their limbs or their bits, and what is asserted of single words.
+//! Words of the row as expressions, by their limbs or their bits, and assertions about single words.
 ghost use Rattle.std.specs.Prelude.{◌+◌};
 ghost use Rattle.air_field.specs.Algebra.{xor_term};
 ghost use Rattle.air_builder.specs.Notation.{◌⊖◌, is_zero};
@@ -13,7 +13,7 @@ use air_author::{
 use air_builder::AirBuilder;
 use air_gadgets::{Add2, Add3, Bits, Columns, Packed, Series, Word};
 
-/// Sixteen of the columns of a word of bits: those of its lower limb, or of its upper one.
+/// Sixteen of the 32 columns of a word in bits: those of its lower or of its upper limb.
 #[derive(Clone, Copy, Drop)]
 pub(crate) struct Half {
     first: u32,
@@ -34,7 +34,7 @@ impl<AB: AirBuilder> Series<AB> for Half {
     }
 }
 
-/// The 32 columns from one on are bits.
+/// The 32 columns from this one on are bits.
 #[derive(Clone, Copy, Drop)]
 pub(crate) struct AreBits(pub(crate) u32);
 
@@ -51,7 +51,7 @@ impl<AB: AirBuilder> Constraint<AB> for AreBits {
     }
 }
 
-/// The word of the first limbs is the sum of that of the second limbs, and of a word of bits.
+/// The word in the limbs `sum` is the sum of the word in `limbs` and a word in bits.
 #[derive(Clone, Copy, Drop)]
 pub(crate) struct AddTwo {
     pub(crate) sum: u32,
@@ -83,7 +83,7 @@ impl<AB: AirBuilder> Constraint<AB> for AddTwo {
     }
 }
 
-/// The same with a further word of bits.
+/// The word in the limbs `sum` is the sum of the word in `limbs` and two words in bits.
 #[derive(Clone, Copy, Drop)]
 pub(crate) struct AddThree {
     pub(crate) sum: u32,
@@ -127,7 +127,7 @@ impl<AB: AirBuilder> Constraint<AB> for AddThree {
     }
 }
 
-/// The limbs are those of a word of bits.
+/// The limbs are those of a word in bits.
 #[derive(Clone, Copy, Drop)]
 pub(crate) struct LimbsOf(pub(crate) u32, pub(crate) u32);
 
@@ -171,7 +171,7 @@ impl<AB: AirBuilder> Constraint<AB> for LimbsOfConstant {
     }
 }
 
-/// Each of the last 32 columns is the xor of those at its place.
+/// Each of the last 32 columns is the xor of the two columns at the same index.
 #[derive(Clone, Copy, Drop)]
 pub(crate) struct BitXors(pub(crate) u32, pub(crate) u32, pub(crate) u32);
 

@@ -18,7 +18,7 @@ fn words(rt: &HostRuntime) -> io::Result<Vec<String>> {
     Ok(words)
 }
 
-/// Why words that can't be had are refused. A word that is no text is none that the program knows.
+/// The refusal when the words aren't available. A word that isn't UTF-8 is a usage error.
 fn refusal_of(kind: ErrorKind) -> Refusal
     ensures memory { kind ≡ ErrorKind.OutOfMemory → result ≡ Refusal.Memory }
     ensures other { (kind ≡ ErrorKind.OutOfMemory → ⊥) → result ≡ Refusal.Usage }
@@ -29,7 +29,7 @@ fn refusal_of(kind: ErrorKind) -> Refusal
     }
 }
 
-/// Answers a status and never an `Err`, which would print to standard error.
+/// Returns a status, never an `Err`, which would print to standard error.
 fn main(rt: HostRuntime) -> ExitCode {
     let mut reader = ReadSource::new(rt.stdin());
     let mut writer = WriteSink::new(rt.stdout());

@@ -1,4 +1,4 @@
--- Fewer distinct elements than there are values fold these to zero, where one of them isn't zero.
+-- If one of K values isn't zero, fewer than K distinct elements fold the values to zero.
 use Rattle.std.specs.Prelude.{◌≡◌, refl, ◌+◌, ◌<◌, List, [], ◌∷◌, ◌++◌, length, Bool, true, false, cond, count_by}
 use Rattle.std.specs.List.{filter}
 use Rattle.std.proofs.Common.{Ordering, Less, Equal, Greater}
@@ -17,7 +17,7 @@ use Rattle.air_folder.specs.laws.Fold.{sum_by_powers-first}
 use Rattle.air_folder.specs.Hiding.{IsBelowAll, IsIncreasing}
 use Rattle.air_folder.proofs.Roots.{DiffersFromAll, Distinct, poly_value, AllRoots, nil_of_roots}
 
--- the values in the other order: the coefficients of their fold, lowest first
+-- the values in reverse order: the coefficients of their fold, lowest first
 abbrev backwards : {A : Type 0} → List A → List A
 backwards [] = []
 backwards (v ∷ vs) = backwards vs ++ v ∷ []
@@ -60,7 +60,7 @@ module _ {A : Type 0} (r : CommRing A) where
   all_zero-backwards (v ∷ vs) h =
       let rest : AllZero r (backwards vs) × (v ≡ r.zero) = all_zero-append (backwards vs) v h in (rest.1, all_zero-backwards vs rest.0)
 
--- what is kept of distinct elements is distinct
+-- a filter keeps distinct elements distinct
 kept-differs : {A : Type 0} (p : A → Bool) (y : A) (xs : List A) → DiffersFromAll y xs → DiffersFromAll y (filter p xs)
 kept-differs p y [] h = tt
 kept-differs p y (x ∷ xs) h =
@@ -82,7 +82,7 @@ module _ {A : Type 0} (r : CommRing A) where
   kept-roots cs p told [] = tt
   kept-roots cs p told (x ∷ xs) = kept-roots-step cs p x xs (p x) (told x) (kept-roots cs p told xs)
 
-  -- fewer elements than values fold the values to zero, where not all values are
+  -- fewer elements than values fold the values to zero, unless all values are zero
   pub few_hide : IsDomain r → (p : A → Bool) (vs alphas : List A) → ((x : A) → p x ≡ true → sum_by_powers r x vs ≡ r.zero) → Distinct alphas → (AllZero r vs → ⊥) → count_by p alphas < length vs
   few_hide domain p vs alphas told distinct some =
       elim (cases_lt (count_by p alphas) (length vs)) [

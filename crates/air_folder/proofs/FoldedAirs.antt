@@ -1,4 +1,4 @@
--- What a fold beside a recording answers, from what the recording and the folder promise.
+-- The answer of a fold with its recording, from the promises of the recording and of the folder.
 use Rattle.std.proofs.Common.{◌≡◌, ℕ, suc, ◌+◌, List, [], ◌∷◌, map, length, get_or, refl, sym, ap, ap₂, ◌∙◌, arith}
 use Rattle.std.proofs.lemmas.List.{length-map}
 use Rattle.air_field.specs.Ring.{CommRing, AlgebraOver}
@@ -18,7 +18,7 @@ use Rattle.air_folder.specs.Folding.{IsFolded}
 use Rattle.air_folder.specs.declared.folding.Folded.{Folded}
 
 module _ {F E : Type 0} (a : AlgebraOver F E) (s : Leaf → E) (z : E) where
-  -- at the places of the base kind are the values of the base terms' records, in order
+  -- at the indices of the base kind, the values are those of the base terms' records, in order
   base_at : (at : ℕ → E) (n : ℕ) (ts : List (Assertion F)) (us : List (Term F)) → EachRecords a us (base_terms ts) → ((k : ℕ) → at (n + k) ≡ get_or (values_in a s ts) k z) → map at (places_from is_base n (map kind_of ts)) ≡ map (value a s) us
   base_at at n [] [] l h = refl
   base_at at n [] (u ∷ us) l h = absurd l
@@ -27,7 +27,7 @@ module _ {F E : Type 0} (a : AlgebraOver F E) (s : Leaf → E) (z : E) where
       ap₂ (λ x xs. x ∷ xs) (ap at (omega arith) ∙ (h 0 ∙ sym (l.0.same_value s))) (base_at at (n + 1) ts us l.1 (λ k. ap at (omega arith) ∙ h (suc k)))
   base_at at n (Extension t ∷ ts) us l h = base_at at (n + 1) ts us l (λ k. ap at (omega arith) ∙ h (suc k))
 
-  -- and at those of the extension kind those of the extension terms' records
+  -- at the indices of the extension kind, they are those of the extension terms' records
   ext_at : (at : ℕ → E) (n : ℕ) (ts : List (Assertion F)) (us : List (Term F)) → EachRecords a us (ext_terms ts) → ((k : ℕ) → at (n + k) ≡ get_or (values_in a s ts) k z) → map at (places_from is_extension n (map kind_of ts)) ≡ map (value a s) us
   ext_at at n [] [] l h = refl
   ext_at at n [] (u ∷ us) l h = absurd l
@@ -36,13 +36,13 @@ module _ {F E : Type 0} (a : AlgebraOver F E) (s : Leaf → E) (z : E) where
   ext_at at n (Extension t ∷ ts) (u ∷ us) l h =
       ap₂ (λ x xs. x ∷ xs) (ap at (omega arith) ∙ (h 0 ∙ sym (l.0.same_value s))) (ext_at at (n + 1) ts us l.1 (λ k. ap at (omega arith) ∙ h (suc k)))
 
--- what was folded on zero is Horner's fold
+-- a fold that starts at zero is Horner's fold
 pub fold_from_zero : {E : Type 0} (r : CommRing E) (alpha : E) (values : List E) (before : E) → before ≡ r.zero → (after answer : E) → after ≡ folded_on r alpha before values → answer ≡ after → answer ≡ sum_by_powers r alpha values
 fold_from_zero r alpha values before from_zero after answer folded same =
     same ∙ (folded ∙ (ap (λ x. folded_on r alpha x values) from_zero ∙ folded_on-nil r alpha values))
 
 module _ {F E : Type 0} (r : CommRing F) (a : AlgebraOver F E) (basis : Basis F E) (d : FolderRow E) (ts : List (Assertion F)) where
-  -- where the accumulator is the fold of the declared terms' values
+  -- the answer of `fold_air`, if the accumulator is the fold of the declared terms' values
   pub folded_air : (f : Folded F E) → RecordsBase r a base_reads f.recorded.pool.base f.recorded.base ts → RecordsExt r a (ext_reads basis) f.recorded.pool f.recorded.ext ts
       → ArePlacesOf (map kind_of ts) f.layout.base_indices.items f.layout.ext_indices.items → f.accumulator ≡ sum_by_powers a.ring d.alpha (values_in a (folder_leaves a d) ts) → IsFolded r a basis d ts f
   folded_air f base ext places fold = record {

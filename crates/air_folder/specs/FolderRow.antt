@@ -1,4 +1,4 @@
--- The row that a folder stands at, and its growth.
+-- The row of a folder, and its growth.
 use Rattle.std.specs.Prelude.{◌≡◌, List, Option, is_some}
 use Rattle.air_field.specs.Ring.{AlgebraOver}
 use Rattle.air_field.specs.declared.matrices.view.ViewPair.{ViewPair}
@@ -25,7 +25,7 @@ folder_row b = record {
   alpha = b.alpha;
 }
 
--- the fold of what was asserted so far
+-- the fold of all assertions so far
 abbrev pub accumulator_of : {F E : Type 0} → ConstraintFolder F E → E
 accumulator_of b = b.accumulator
 
@@ -33,8 +33,7 @@ accumulator_of b = b.accumulator
 abbrev pub folder_permutation : {F E : Type 0} → ConstraintFolder F E → Option (ViewPair E)
 folder_permutation b = b.permutation
 
--- The folder stands at the row that the pairs hold, with the values, the permutation data and alpha that it was given, and
--- its accumulator is zero.
+-- The folder is at the row in the pairs, with the given values, permutation data and alpha, and its accumulator is zero.
 pub record StartsAt {F E : Type 0} (main_rows table_rows : ViewPair E)
     (others : Option (ViewPair E)) (public columns challenges exposed : List E)
     (first last transition alpha zero : E) (b : ConstraintFolder F E) : Type 0 where
@@ -53,12 +52,12 @@ pub record StartsAt {F E : Type 0} (main_rows table_rows : ViewPair E)
   pub by_alpha : b.alpha ≡ alpha
   pub accumulator : b.accumulator ≡ zero
 
--- the accumulator is that before times alpha, plus one value
+-- the new accumulator is the old one times alpha, plus one value
 abbrev pub StepsBy : {F E : Type 0} → AlgebraOver F E → E → ConstraintFolder F E
     → ConstraintFolder F E → Type 0
 StepsBy a value b c = c.accumulator ≡ a.ring.add (a.ring.mul b.accumulator b.alpha) value
 
--- the folder grew by the list
+-- the folder grew by these assertions
 abbrev pub FolderGrew : {F E : Type 0} → AlgebraOver F E → ConstraintFolder F E
     → ConstraintFolder F E → List (Assertion F) → Type 0
 FolderGrew a b c ts = GrewFolder a (folder_row b) (folder_row c) b.accumulator c.accumulator ts

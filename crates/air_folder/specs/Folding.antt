@@ -1,4 +1,4 @@
--- What the fold of an AIR beside its recording answers and refuses.
+-- The answer and the errors of a fold of an AIR with its recording.
 use Rattle.std.specs.Prelude.{◌≡◌, ◌⊎◌, ◌≤◌, ℕ, List, length, map, take}
 use Rattle.air_field.specs.Ring.{CommRing, AlgebraOver}
 use Rattle.air_field.specs.Extension.{Basis}
@@ -25,14 +25,13 @@ use Rattle.air_folder.specs.declared.folding.Folded.{Folded}
 abbrev pub base_values : {F E : Type 0} → AlgebraOver F E → (Leaf → E) → Recording F E → List E
 base_values a s recorded = map (value a s) (terms_of base_reads recorded.pool.base recorded.base)
 
--- and those of the recorded extension constraints
+-- the values of the recorded extension constraints at the leaves, in order
 abbrev pub ext_values : {F E : Type 0} → AlgebraOver F E → Basis F E → (Leaf → E) → Recording F E → List E
 ext_values a basis s recorded = map (value a s) (terms_of (ext_reads basis) recorded.pool recorded.ext)
 
--- The recording records the declared terms, and the layout has the places of each kind. The values of the declared terms
--- at the folder's leaves are at the base places those of the recorded base constraints, and at the extension places those
--- of the recorded extension constraints. The accumulator is Horner's fold of these values by the folder's alpha; and it
--- is their recombination from all coordinates and whole powers that recombine what stands at these places.
+-- The recording records the declared terms, and the layout has the indices of each kind. Among the values of the declared terms at the folder's leaves, those
+-- at the base indices are the values of the recorded base constraints; likewise for the extension. The accumulator is Horner's fold of these values by alpha;
+-- and it equals their recombination from all coordinates and whole powers that recombine these indices.
 pub record IsFolded {F E : Type 0} (r : CommRing F) (a : AlgebraOver F E) (basis : Basis F E) (d : FolderRow E) (declared : List (Assertion F)) (f : Folded F E) : Type 0 where
   pub base : RecordsBase r a base_reads f.recorded.pool.base f.recorded.base declared
   pub ext : RecordsExt r a (ext_reads basis) f.recorded.pool f.recorded.ext declared
@@ -45,14 +44,13 @@ pub record IsFolded {F E : Type 0} (r : CommRing F) (a : AlgebraOver F E) (basis
   pub recombined : (coordinates : List (List F)) (powers : List E) → Recombines r a d.alpha f.layout.base_indices.items f.layout.ext_indices.items coordinates powers
       → recombination r a coordinates powers (base_values a (folder_leaves a d) f.recorded) (ext_values a basis (folder_leaves a d) f.recorded) ≡ f.accumulator
 
--- the folder grew by the first ones of the list, perhaps by none
+-- the folder grew by the first `count` assertions of the list, possibly none
 pub record GrewByBeginningOf {F E : Type 0} (a : AlgebraOver F E) (b c : ConstraintFolder F E) (ts : List (Assertion F)) : Type 0 where
   pub count : ℕ
   pub within : count ≤ length ts
   pub beginning : FolderGrew a b c (take count ts)
 
--- It refuses what the recording refuses; and where that answers, want of memory to the AIR itself,
--- or an entry that the folder hasn't.
+-- The error is one of the recording; or, if the recording succeeds, `Memory` from the AIR itself, or a missing entry of the folder.
 abbrev pub FoldingRefuses : {F E : Type 0} → CommRing F → AlgebraOver F E → AirLayout → Declaration F
     → FolderRow E → AirError → Type 0
 FoldingRefuses r a layout d row e =

@@ -1,4 +1,4 @@
--- Elements that fold values to zero.
+-- Elements by which values fold to zero.
 use Rattle.std.specs.Prelude.{◌≡◌, Bool, List, [], ◌∷◌, ⊤}
 use Rattle.std.specs.declared.cmp.Ordering.{Ordering}
 use Rattle.std.specs.declared.cmp.Ordering.TheVariants.{Less}
@@ -13,7 +13,7 @@ abbrev pub IsBelowAll : {A : Type 0} → (A → A → Ordering) → A → List A
 IsBelowAll cmp x [] = ⊤
 IsBelowAll cmp x (y ∷ ys) = (cmp x y ≡ Less) × IsBelowAll cmp x ys
 
--- each is below all that follow
+-- each element is below all that follow
 abbrev pub IsIncreasing : {A : Type 0} → (A → A → Ordering) → List A → Type 0
 IsIncreasing cmp [] = ⊤
 IsIncreasing cmp (x ∷ xs) = IsBelowAll cmp x xs × IsIncreasing cmp xs

@@ -1,4 +1,4 @@
--- Folds of values, the folder's row, growth and laws, and folds beside recordings.
+-- Folds of values; the folder's row, growth and laws; folds with recordings.
 pub mod Fold
 pub mod Hiding
 pub mod Folder

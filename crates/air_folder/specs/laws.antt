@@ -1,3 +1,3 @@
--- Laws of what specs/ defines: implementations cite them, and the layers above build on them.
+-- Laws of the definitions in specs/, for implementations and for the layers above.
 pub mod Folder
 pub mod Fold

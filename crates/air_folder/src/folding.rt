@@ -1,4 +1,4 @@
-//! An AIR folded beside its recording.
+//! Folding an AIR, with its recording.
 ghost use Rattle.std.specs.Prelude.{◌≡◌, IfOk, IfErr, OnOk, OnErr};
 ghost use Rattle.air_builder.specs.Refusals.{NoneMissing};
 ghost use Rattle.air_recording.specs.Layouts.{LayoutSuits};
@@ -19,21 +19,24 @@ use std::alloc::Global;
 pub struct Folded<F: Field, EF: ExtensionField<F>> {
     /// The constraints as expressions.
     pub recorded: Recorded<F, EF>,
-    /// The places of the recorded constraints among all of them.
+    /// The indices of the recorded constraints among all constraints, by kind.
     pub layout: ConstraintLayout,
-    /// Horner's fold of the values of all constraints in order.
+    /// Horner's fold of the values of all constraints, in order.
     pub accumulator: EF,
 }
 
 /// Records an AIR by a layout, and then folds the values of its constraints at the folder's row.
 ///
-/// The folder's accumulator, which is zero before, is then Horner's fold, by the folder's alpha, of the values that the
-/// recorded constraints have at its row, in order. It is their recombination too, from what
-/// [`decompose_alpha`](ConstraintLayout::decompose_alpha) answers for the answered layout and the folder's alpha: the
-/// sum of each coordinate times its basis element times its constraint's value, and of each whole power times its
+/// The accumulator must be zero before. Afterwards it is Horner's fold, by the folder's alpha, of the values that the
+/// recorded constraints have at the folder's row, in order. It equals their recombination from the answer of
+/// [`decompose_alpha`](ConstraintLayout::decompose_alpha) for the answered layout and the folder's alpha: the sum of
+/// each coordinate times its basis element times its constraint's value, plus the sum of each whole power times its
 /// constraint's value.
 ///
-/// A refusal, of the recording or of the folder, leaves a beginning of the fold.
+/// # Errors
+///
+/// The errors of the recording, and then those of the folder and of the AIR itself. After an error, the folder has
+/// folded only a beginning of the constraints.
 pub fn fold_air<
     'a,
     F: Field,

@@ -1,5 +1,5 @@
-//! A folder of constraints: a builder that evaluates what is asserted over an extension, and folds the values by powers
-//! of one element; and how few elements can hide a value that isn't zero.
+//! A folder of constraints: a builder that evaluates assertions over an extension, and folds their values by powers of
+//! one element; and a bound on the number of elements that can hide a nonzero value.
 #![tactic(auto)]
 
 pub mod folder;

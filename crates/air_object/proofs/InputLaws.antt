@@ -1,4 +1,4 @@
--- Whole objects: what the members' reader answers is what they spell, or their first fault.
+-- Whole objects: the members' reader answers exactly what they spell, or their first fault.
 use Rattle.std.proofs.Common.{ℕ, ◌≡◌, ◌≢◌, refl, sym, ap, subst, ◌∙◌, inl, inr}
 use Rattle.serde_json.specs.Data.{Data}
 use Rattle.air_core.specs.declared.errors.AirError.{AirError}

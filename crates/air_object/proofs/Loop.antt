@@ -1,4 +1,4 @@
--- Reading elements one after the other, as a loop does.
+-- Reading elements in a loop, one after another.
 use Rattle.std.proofs.Common.{◌≡◌, ℕ, ◌+◌, ◌<◌, ◌≤◌, List, [], ◌∷◌, ◌++◌, length, get_or, drop, drop-cons, add-one, Result, Ok, Err, refl, sym, ap, ◌∙◌, arith}
 use Rattle.std.proofs.lemmas.Grind.{common_steps}
 use Rattle.serde_json.specs.Data.{item}
@@ -37,7 +37,7 @@ module _ {X : Type 0} (read : Reader X) (vs : List Value) (done : List X) (i : �
       let none : drop i vs ≡ [] = grind (arith, common_steps) in
       sym so_far ∙ ap (λ (us : List Value). each_from read done (items_view us)) none
 
--- a fault that is read is one that the reader fails with
+-- if a read answers a fault, the reader fails with it
 pub fails_with : {X : Type 0} (f : FlatError) (r : Result X FlatError) → Err f ≡ r → Fails f r
 fails_with faults.Memory r e = tt
 fails_with faults.DegreeOverflow r e = sym e

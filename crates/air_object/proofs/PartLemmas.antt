@@ -1,4 +1,4 @@
--- The parts of an object, as they are read, beside the object.
+-- The parts of an object, read while its text is read.
 use Rattle.std.proofs.Common.{◌≡◌, ◌≢◌, ℕ, ◌-◌, ◌<◌, ◌≤◌, List, [], ◌∷◌, ◌++◌, length, map, Option, Some, None, Result, Ok, Err, Bool, true, false, IfOk, codes, bytes_eq, true≢false, String, BTreeMap, Vec, Global, refl, sym, ap, subst, ◌∙◌, arith}
 use Rattle.std.proofs.lemmas.List.{map_push}
 use Rattle.std.proofs.lemmas.Slice.Eq.{bytes_eq-Decides}
@@ -30,7 +30,7 @@ use Rattle.air_object.proofs.TokenLemmas.{data_before, one_more_data, item_read}
 use Rattle.air_object.proofs.Trees.{GrownTo, AllIn, all_in_push, trees_kept}
 use Rattle.air_object.specs.declared.constraints.Constraints.{Constraints}
 
--- what is seen of what a call gave is what is given
+-- the view of an answer is the given answer
 pub gives_ok : {X Y : Type 0} (see : X → Y) (r : Result X FlatError) (x : X) (given : Result Y FlatError) → r ≡ Ok x → Gives see r given → given ≡ Ok (see x)
 gives_ok see r x given is h = subst (λ q. Gives see q given) is h
 
@@ -68,9 +68,9 @@ only_memory see (Err (faults.NotCanonical place)) other h = absurd cc
 next_fails : {X Y : Type 0} (f : FlatError) (r : Result X FlatError) (next : X → Result Y FlatError) → Fails f r → Fails f (r >>= next)
 next_fails {X} f r next h = fails_if f (r >>= next) (λ n. ap (λ (q : Result X FlatError). q >>= next) (fails_is f r h n))
 
--- ---- one item more
+-- ---- one more item
 
--- an item is taken of an array, of which so much is known
+-- an item is taken from an array, of which the part before it is known
 pub item_taken : (p : Parse Json) (all : Option (Items × List Token)) (start n : ℕ) (ts r : List Token) (ds : List Data) (d : Data) → length ts ≤ n
     → all ≡ parse_map (data_before ds) (converted of_items (items p n ts)) → length ts ≤ start → after_end_array ts ≡ None → converted of_json (p ts) ≡ Some (d, r) → length r < length ts
     → (m : ℕ) × (length r ≤ m) × (all ≡ parse_map (data_before (ds ++ d ∷ [])) (converted of_items (items p m r))) × (length r ≤ start)
@@ -81,7 +81,7 @@ item_taken p all start n ts r ds d enough so_far less going taken shorter = (
   omega (arith, less, shorter),
 )
 
--- what is read of one value more
+-- reading one more value
 pub more_read : {X : Type 0} (read : Reader X) (before : List X) (d : Data) (x : X) → read d ≡ Ok x → read_one_more read (Ok before) d ≡ Ok (before ++ x ∷ [])
 more_read {X} read before d x e = ap (λ (r : Result X FlatError). r >>= λ y. Ok (before ++ y ∷ [])) e
 
@@ -90,7 +90,7 @@ module _ {X : Type 0} (read : Reader X) where
   pub still_fails : (f : FlatError) (given : Result (List X) FlatError) (d : Data) → Fails f given → Fails f (read_one_more read given d)
   still_fails f given d h = next_fails f given _ h
 
-  -- a turn of the loop that reads the items of an array, of which so much is known
+  -- a turn of the loop over an array's items, when the part before is known
   pub one_item_more : (Before After : Result (List X) FlatError → Type 0) (p : Parse Json) (all : Option (Items × List Token)) (start n : ℕ) (ts r : List Token) (ds : List Data) (d : Data) → length ts ≤ n
       → all ≡ parse_map (data_before ds) (converted of_items (items p n ts)) → length ts ≤ start → Before (each_from read [] (items_of ds)) → after_end_array ts ≡ None
       → converted of_json (p ts) ≡ Some (d, r) → length r < length ts → ((given : Result (List X) FlatError) → Before given → After (read_one_more read given d))
@@ -100,27 +100,27 @@ module _ {X : Type 0} (read : Reader X) where
       (turn.0, turn.1, ds ++ d ∷ [], turn.2, turn.3, subst After (sym (each_from_push read [] ds d)) (more (each_from read [] (items_of ds)) given))
 
 module _ {F : Type 0} {order : ℕ} (modular : Modular F order) where
-  -- what is read of the items of an array is read of its value
+  -- a fact about reading an array's items is one about reading the array
   pub of_array : {E R : Type 0} (P : R → Data → Type 0) (r : Result R E) (whole : Option (Data × List Token)) (inside : Option (Items × List Token)) (rest : List Token) → whole ≡ parse_map array inside
       → IfOk r (λ c. (ds : Items) × (inside ≡ Some (ds, rest)) × P c (array ds)) → IfOk r (λ c. (d : Data) × (whole ≡ Some (d, rest)) × P c d)
   of_array P (Ok c) whole inside rest e h = (array h.0, e ∙ ap (parse_map array) h.1, h.2)
   of_array P (Err f) whole inside rest e h = tt
 
-  -- the lists of an array are those of its value
+  -- the lists of an array are the constraints of its value
   pub lists_of_array : {E : Type 0} (r : Result (Constraints F) E) (whole : Option (Data × List Token)) (inside : Option (Items × List Token)) (rest : List Token) → whole ≡ parse_map array inside
       → IfOk r (λ c. (ds : Items) × (inside ≡ Some (ds, rest)) × AreGiven (each_from (tree modular) [] ds) c) → IfOk r (λ c. (d : Data) × (whole ≡ Some (d, rest)) × AreGiven (trees modular d) c)
   unfolding trees
   lists_of_array (Ok c) whole inside rest e h = (array h.0, e ∙ ap (parse_map array) h.1, h.2)
   lists_of_array (Err f) whole inside rest e h = tt
 
-  -- and so are its elements
+  -- likewise its elements
   pub elements_of_array : {E : Type 0} (r : Result (Result (Vec F Global) FlatError) E) (whole : Option (Data × List Token)) (inside : Option (Items × List Token)) (rest : List Token) → whole ≡ parse_map array inside
       → IfOk r (λ es. (ds : Items) × (inside ≡ Some (ds, rest)) × AreElements (each_from (element_at modular 0) [] ds) es) → IfOk r (λ es. (d : Data) × (whole ≡ Some (d, rest)) × AreElements (elements modular d) es)
   unfolding elements
   elements_of_array (Ok es) whole inside rest e h = (array h.0, e ∙ ap (parse_map array) h.1, h.2)
   elements_of_array (Err f) whole inside rest e h = tt
 
-  -- ---- one root more, in a pool that has grown
+  -- ---- one more root, in a pool that has grown
 
   module _ (p q : BaseNodes F) (d : Data) (given : GivenTrees F) (grown : GrownTo p q) where
     abbrev more : GivenTrees F
@@ -146,7 +146,7 @@ module _ {F : Type 0} {order : ℕ} (modular : Modular F order) where
       let seen = roots_seen c.pool e.pool d given reads.grown (and_one (root_numbers c.roots) root) e.roots one both.0 both.1 in
       record { inside = record { pool = reads.grown.pool h.inside.pool; here = seen.0 }; read = seen.1 }
 
-  -- ---- one member more
+  -- ---- one more member
 
   pub none_of_members : (es : Result (Vec F Global) FlatError) (c : Constraints F) → AreElements (Err (faults.Shape 0)) es → AreGiven (Err (faults.Shape 0)) c → AreMembersOf modular no_members no_members es c
   none_of_members es c g h = record { others = λ name n k. refl; main = g; constraints = h }
@@ -190,7 +190,7 @@ module _ {F : Type 0} {order : ℕ} (modular : Modular F order) where
 
   -- ---- the members of the parts
 
-  -- a result that gives what a reading leads to, gives what the one that is read by it leads to
+  -- if a result gives the outcome of a reading, the next step gives the outcome of the next reading
   module _ {T X Y : Type 0} (see : X → Y) (r : Result X FlatError) (place : Result T FlatError → Result Y FlatError) (given : Result T FlatError) (memory : Gives see r (place (Err faults.Memory)) → Gives see r (place given)) where
     fault_gives : (f : FlatError) → Fails f given → Gives see r (place (Err f)) → Gives see r (place given)
     fault_gives faults.Memory e h = memory h
@@ -219,7 +219,7 @@ module _ {F : Type 0} {order : ℕ} (modular : Modular F order) where
     width_memory k (Err f) h = h
     width_memory k (Ok x) h = only_memory see r _ h
 
-  -- where the trace and the constraints gave what they are given by, so do all members
+  -- if the trace and the constraints agree with the given ones, all members do
   module _ {X : Type 0} (see : X → MemberValues F) (r : Result X FlatError) (rest : Data) where
     abbrev GivesWith : GivenElements F → GivenTrees F → Type 0
     GivesWith trace g = Gives see r (members_with modular trace g rest)
@@ -239,7 +239,7 @@ module _ {F : Type 0} {order : ℕ} (modular : Modular F order) where
         read_gives see r (λ g. members_with modular trace g rest) given (constraints_memory trace given) seen roots second
         (read_gives see r (λ t. members_with modular t (result_map_both seen (λ f. f) roots) rest) trace (trace_memory trace (result_map_both seen (λ f. f) roots)) shown es first h)
 
-  -- the other members are those of the object
+  -- the other members are the object's
   module _ (d rest : Data) (es : Result (Vec F Global) FlatError) (c : Constraints F) (parts : ArePartsOf modular d rest es c) where
     same : (name : List ℕ) → (length name ≡ 4 → ⊥) → (length name ≡ 11 → ⊥) → get name d ≡ get name rest
     same name first other = parts.others name (λ e. first (ap length e)) (λ e. other (ap length e))
@@ -285,7 +285,7 @@ module _ {F : Type 0} {order : ℕ} (modular : Modular F order) where
     unfolding labels_member
     labelled_same = rw (same (codes "labels") (λ e. absurd cc) (λ e. absurd cc)) refl
 
-    -- and so do the constraints with their labels
+    -- likewise the constraints with their labels
     pub labelled_give : {X : Type 0} (see : X → LabelledTrees F) (r : Result X FlatError) → Gives see r (labelled_with (given_by c) rest)
         → Gives see r (labelled_read modular d)
     labelled_give see r h =

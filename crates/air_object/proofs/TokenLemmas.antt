@@ -1,4 +1,4 @@
--- What a reader of a text takes: the grammar of arrays and objects, a turn at a time, under the conversion to data.
+-- The tokens that a reader of a text consumes: the grammar of arrays and objects, a turn at a time, under the conversion to data.
 use Rattle.std.proofs.Common.{◌≡◌, ℕ, zero, suc, ◌-◌, ◌<◌, ◌≤◌, List, [], ◌∷◌, ◌++◌, length, Option, Some, None, option_map, option_and_then, refl, ap, ◌∙◌}
 use Rattle.json.specs.Token.{Token}
 use Rattle.json.specs.Json as json
@@ -116,7 +116,7 @@ pub none_before : (r : Option (Items × List Token)) → r ≡ parse_map (λ a. 
 none_before None = refl
 none_before (Some p) = refl
 
--- ---- the same of data
+-- ---- the same list, as data
 
 abbrev pub data_before : List Data → Items → Items
 data_before [] rest = rest

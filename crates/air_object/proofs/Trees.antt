@@ -28,7 +28,7 @@ module _ {F : Type 0} {order : ℕ} (modular : Modular F order) where
   pub grown_on : (p q s : BaseNodes F) → GrownTo p q → GrownTo q s → GrownTo p s
   grown_on = Grown-trans (modular_ring modular) base_reads base_grows tt (base_leaf_laws (modular_ring modular))
 
-  -- ---- numbers of a pool that grows
+  -- ---- ids of a pool that grows
 
   pub all_in_push : (p q : BaseNodes F) (is : List ℕ) (i : ℕ) → GrownTo p q → AllIn p is → i < length q.nodes → AllIn q (is ++ i ∷ [])
   all_in_push p q [] i g h lt zero d b = lt
@@ -42,7 +42,7 @@ module _ {F : Type 0} {order : ℕ} (modular : Modular F order) where
       let first : i < length p.nodes = h zero zero (omega arith) in
       cc (tree-kept (modular_ring modular) base_reads base_grows tt (base_leaf_laws (modular_ring modular)) p q i g first, trees_kept p q is g (λ k d lt. h (suc k) d (omega (arith, lt))))
 
-  -- ---- what the reader of lists promises
+  -- ---- the contract of the reader of lists
 
   pub tree_given : (p : BaseNodes F) (d : Data) (r : Result ℕ FlatError) → IfOk r (λ i. IsList (base_kind modular) d (seen_at base_seen p i)) → IfErr r (λ e. e ≢ faults.Memory → HasFault (base_kind modular) d e) → Gives (tree_at p) r (tree modular d)
   tree_given p d (Ok i) h n = root_again (base_kind modular) (base_kind_laws modular) d (seen_at base_seen p i) h ∙ ap (λ t. Ok t) (over_same (tree_at p i))

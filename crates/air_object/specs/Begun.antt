@@ -1,4 +1,4 @@
--- What begins where a reader of a text stands.
+-- The values, items and members at a reader's position in a text.
 use Rattle.std.specs.Prelude.{◌≡◌, ℕ, List, length, Option, Some}
 use Rattle.json.specs.Json.{parse_map, value, items, members}
 use Rattle.json.specs.Token.{Token}
@@ -8,19 +8,19 @@ use Rattle.serde_json.specs.View.{view}
 use Rattle.air_object.specs.declared.text.Beginning.{Beginning}
 use Rattle.air_object.specs.declared.text.Beginning.TheVariants.{Array, Other}
 
--- the value that begins at these tokens, at most so deep, and the tokens behind it
+-- the value at the front of these tokens, nested at most `depth` levels, and the tokens after it
 abbrev pub value_at : ℕ → List Token → Option (Data × List Token)
 value_at depth tokens = converted of_json (value depth tokens)
 
--- the same of the items of an array that is begun, and of the members of an object
+-- the remaining items of an array, or the remaining members of an object, and the tokens after them
 abbrev pub items_at : ℕ → List Token → Option (Items × List Token)
 items_at depth tokens = converted of_items (items (value depth) (length tokens) tokens)
 
 abbrev pub members_at : ℕ → List Token → Option (Members × List Token)
 members_at depth tokens = converted (λ ms. of_members ms no_members) (members (value depth) (length tokens) tokens)
 
--- The value at `before` is an array whose items stand at `after`, each at most so deep; or it is another value, and
--- `after` follows it.
+-- The value at `before` is an array, and `after` is the position of its items, each nested at most `inside` levels; or it is another value, and `after` follows
+-- it.
 abbrev pub IsBegun : ℕ → List Token → List Token → Beginning → Type 0
 IsBegun depth before after (Array inside) =
     value_at depth before ≡ parse_map array (items_at inside after)

@@ -1,4 +1,4 @@
--- Which objects are inputs, and which fault is the first of one that is none.
+-- Which objects are inputs, and the first fault of an object that isn't one.
 use Rattle.std.specs.Prelude.{◌≡◌, ℕ, List, map, Option, None, Some, Result, Ok, Err, string_bytes, ◌⊎◌}
 use Rattle.std.specs.Result.{result_map_both}
 use Rattle.serde_json.specs.Data.{Data}
@@ -14,13 +14,12 @@ use Rattle.air_json.specs.declared.errors.FlatError.{FlatError}
 use Rattle.air_object.specs.Members.{TableValues, MemberValues, members}
 use Rattle.air_object.specs.declared.input.FlatInput.{FlatInput}
 
--- the preprocessed table of such values, if there are some
+-- the preprocessed trace with these values, if there is one
 abbrev pub table_of : {F : Type 0} → Option (TableValues F) → Result (Option (Grid F)) MatrixError
 table_of None = Ok None
 table_of (Some t) = result_map_both (λ table. Some table) (λ f. f) (matrix_of t.0 t.1)
 
--- The members of d are those of the input: a root stands for its tree, and the values of the trace and of the table fill
--- rows of their widths.
+-- The members of d are the input's: each root as its tree, and the values of the main and the preprocessed trace as whole rows of their widths.
 pub record SpellsInput {F : Type 0} {p : ℕ} (m : Modular F p) (d : Data) (input : FlatInput F) : Type 0 where
   pub main_width : ℕ
   pub values : List F
@@ -50,13 +49,13 @@ pub record SpellsInput {F : Type 0} {p : ℕ} (m : Modular F p) (d : Data) (inpu
   pub main : matrix_of main_width values ≡ Ok input.main
   pub preprocessed : table_of table ≡ Ok input.preprocessed
 
--- the values of the trace fill no rows, or those of the table don't, behind a trace
+-- the values of the main trace aren't whole rows; or they are, and those of the preprocessed trace aren't
 abbrev pub HasMatrixFault : {F : Type 0} → MemberValues F → MatrixError → Type 0
 HasMatrixFault {F} v f =
     (matrix_of v.0.0 v.0.1.0 ≡ Err f)
     ⊎ ((main : Grid F) × (matrix_of v.0.0 v.0.1.0 ≡ Ok main) × (table_of v.0.1.1.0 ≡ Err f))
 
--- the first fault of the members, or else that of the matrices
+-- the first fault of the members; if there is none, the first fault of the matrices
 abbrev pub HasInputFault : {F : Type 0} {p : ℕ} → Modular F p → Data → AirError → Type 0
 HasInputFault {F} m d e =
     ((f : FlatError) × (members m).fault d f × (e ≡ air_fault f))

@@ -1,4 +1,4 @@
--- The members of the object: what they spell, in the order in which they are read.
+-- The members of the object, in the order in which they are read, and what they spell.
 use Rattle.std.specs.Prelude.{◌≡◌, ℕ, ◌≤◌, List, [], length, Option, Some, None, ◌⊎◌, codes}
 use Rattle.serde_json.specs.Data.{Data, null, string}
 use Rattle.air_field.specs.Modular.{Modular}
@@ -16,7 +16,7 @@ use Rattle.air_object.specs.Objects.{Grammar, by_form, list_of, at_most, needed_
 abbrev pub whole_number : Grammar ℕ
 whole_number = by_form (λ d n. IsWholeNumber n d)
 
--- no whole number, or one at or past the modulus p
+-- not a whole number, or one that isn't below the modulus p
 abbrev pub ElementFault : ℕ → Data → FlatError → Type 0
 ElementFault p d f = (((n : ℕ) → IsWholeNumber n d → ⊥) × (f ≡ faults.Shape 0)) ⊎ ((n : ℕ) × IsWholeNumber n d × (p ≤ n) × (f ≡ faults.NotCanonical 0))
 
@@ -31,7 +31,7 @@ constraint m = record { spells = IsList (base_kind m); fault = HasFault (base_ki
 abbrev pub boundary_cell : Grammar BoundaryPublic
 boundary_cell = by_form SpellsCell
 
--- null is no cap
+-- null means no cap
 abbrev pub SpellsCap : Data → Option ℕ → Type 0
 SpellsCap d None = d ≡ null
 SpellsCap d (Some n) = IsWholeNumber n d
@@ -42,24 +42,24 @@ cap = by_form SpellsCap
 abbrev pub label : Grammar (List ℕ)
 label = by_form (λ d text. d ≡ string text)
 
--- the labels of n constraints, of which the first ones may have one each
+-- at most n labels, one for each of the first constraints
 abbrev pub labels : ℕ → Grammar (List (List ℕ))
 labels n = optional_member (codes "labels") [] (at_most n (list_of label))
 
--- a width, and values for rows of it
+-- a width, and the values of rows of that width
 abbrev pub TableValues : Type 0 → Type 0
 TableValues F = ℕ × List F
 
--- the width, the trace's values, the preprocessed table's width and values, the public values, the constraints, the
--- periodic columns, the boundary cells, the cap, the weight of the transition selector
+-- the width and values of the main trace, those of the preprocessed trace, the public values, the constraints, the periodic columns, the boundary values, the
+-- cap, the weight of the transition selector
 abbrev pub OtherValues : Type 0 → Type 0
 OtherValues F = ℕ × (List F × (Option (TableValues F) × (List F × (List (Option (Tree (BaseLeaf F))) × (List (List F) × (List BoundaryPublic × (Option ℕ × ℕ)))))))
 
--- those, and the constraints' labels
+-- all of these, and the constraints' labels
 abbrev pub MemberValues : Type 0 → Type 0
 MemberValues F = OtherValues F × List (List ℕ)
 
--- how many constraints there are
+-- the number of constraints
 abbrev pub constraint_count : {F : Type 0} → OtherValues F → ℕ
 constraint_count v = length v.1.1.1.1.0
 

@@ -1,4 +1,4 @@
--- An object whose trace and constraints are read apart from its other members.
+-- An object whose trace and constraints are read separately from its other members.
 use Rattle.std.specs.Prelude.{◌≡◌, ◌≢◌, ℕ, ◌<◌, List, [], ◌∷◌, ◌++◌, length, map, All, Option, Result, Ok, IfOk, codes, Vec}
 use Rattle.std.specs.Global.{Global}
 use Rattle.std.specs.Result.{result_map_both}
@@ -19,7 +19,7 @@ use Rattle.air_object.specs.declared.constraints.Constraints.{Constraints}
 abbrev pub GivenElements : Type 0 → Type 0
 GivenElements F = Result (List F) FlatError
 
--- these are read, or it is this fault
+-- the code's answer is these elements, or this fault, or `Memory`
 abbrev pub AreElements : {F : Type 0} → GivenElements F → Result (Vec F Global) FlatError → Type 0
 AreElements given es = Gives (λ v. v.items) es given
 
@@ -27,45 +27,45 @@ AreElements given es = Gives (λ v. v.items) es given
 abbrev pub GivenTrees : Type 0 → Type 0
 GivenTrees F = Result (List (Option (Tree (BaseLeaf F)))) FlatError
 
--- the numbers of the roots, or the first fault
+-- the ids of the roots, or the first fault
 abbrev pub root_numbers : Result (Vec ℕ Global) FlatError → Result (List ℕ) FlatError
 root_numbers roots = result_map_both (λ v. v.items) (λ f. f) roots
 
--- the roots are numbers of the pool
+-- the roots are ids of the pool
 pub record InPool {F : Type 0} (c : Constraints F) : Type 0 where
   pub pool : IsPool base_reads c.pool
   pub here : IfOk c.roots (λ roots. All (λ i. i < size c.pool) roots.items)
 
--- and have these trees, or it is this fault
+-- the roots have these trees, or the answer is this fault or `Memory`
 pub record AreGiven {F : Type 0} (given : GivenTrees F) (c : Constraints F) : Type 0 where
   pub inside : InPool c
   pub read : Gives (λ roots. map (tree_at c.pool) roots.items) c.roots given
 
--- those, and one more
+-- a list and one more element, or the first fault
 abbrev pub and_one : {X : Type 0} → Result (List X) FlatError → Result X FlatError → Result (List X) FlatError
 and_one given one = given >>= λ before. one >>= λ x. Ok (before ++ x ∷ [])
 
--- those, and what is read of one value more
+-- a list and the reading of one more value, or the first fault
 abbrev pub read_one_more : {X : Type 0} → Reader X → Result (List X) FlatError → Data → Result (List X) FlatError
 read_one_more read given d = and_one given (read d)
 
--- what a member's value gives, if there is one
+-- the reading of a member's value; wrong form without the member
 abbrev pub of_member : {X : Type 0} → Reader X → Option Data → Result X FlatError
 of_member read o = or_wrong_form o >>= read
 
--- rest are the members ms but for the trace and the constraints, which are apart
+-- `rest` has the members ms except the trace and the constraints, which es and c give
 pub record AreMembersOf {F : Type 0} {p : ℕ} (m : Modular F p) (ms rest : Members) (es : Result (Vec F Global) FlatError) (c : Constraints F) : Type 0 where
   pub others : (name : List ℕ) → name ≢ codes "main" → name ≢ codes "constraints" → get_member name ms ≡ get_member name rest
   pub main : AreElements (of_member (elements m) (get_member (codes "main") ms)) es
   pub constraints : AreGiven (of_member (trees m) (get_member (codes "constraints") ms)) c
 
--- the same of values: of one that is no object, none has a member
+-- `AreMembersOf` for a whole value; a value that is no object has no members
 pub record ArePartsOf {F : Type 0} {p : ℕ} (m : Modular F p) (d rest : Data) (es : Result (Vec F Global) FlatError) (c : Constraints F) : Type 0 where
   pub others : (name : List ℕ) → name ≢ codes "main" → name ≢ codes "constraints" → get name d ≡ get name rest
   pub main : AreElements (elements_member m (codes "main") d) es
   pub constraints : AreGiven (constraints_member m d) c
 
--- ---- the members, given what the trace and the constraints are
+-- ---- the members, given the trace and the constraints
 
 abbrev pub given_elements : {F : Type 0} → Result (Vec F Global) FlatError → GivenElements F
 given_elements es = result_map_both (λ v. v.items) (λ f. f) es

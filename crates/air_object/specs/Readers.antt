@@ -1,4 +1,4 @@
--- How the members of the object are found.
+-- How the code reads the members of the object.
 use Rattle.std.specs.Prelude.{ℕ, List, [], ◌∷◌, ◌++◌, length, nat_lt, ◌||◌, Option, Some, None, Result, Ok, Err, option_map, codes, if◌then◌else◌, is_some, ok_or}
 use Rattle.serde_json.specs.Data.{Data, Items, no_items, item}
 use Rattle.serde_json.specs.Find.{get, as_array, as_null, as_str}
@@ -18,13 +18,13 @@ use Rattle.air_object.specs.Members.{TableValues, MemberValues, LabelledTrees}
 abbrev pub Reader : Type 0 → Type 0
 Reader X = Data → Result X FlatError
 
--- what is found, or the form is wrong
+-- the value, if there is one; otherwise the form is wrong
 abbrev pub or_wrong_form : {X : Type 0} → Option X → Result X FlatError
 or_wrong_form o = ok_or o (faults.Shape 0)
 
 -- ---- lists
 
--- what is done and what the further items give, or the first fault
+-- the elements of `done` and of the further items, or the first fault
 unfoldable pub each_from : {X : Type 0} → Reader X → List X → Items → Result (List X) FlatError
 each_from read done no_items = Ok done
 each_from read done (item d ds) = read d >>= λ x. each_from read (done ++ x ∷ []) ds
@@ -44,7 +44,7 @@ tree m d = root_of (base_kind m) d
 unfoldable pub trees : {F : Type 0} {p : ℕ} → Modular F p → Reader (List (Option (Tree (BaseLeaf F))))
 trees m d = list_read (tree m) d
 
--- what is read, if that is n elements at most
+-- the list, if it has at most n elements; otherwise the form is wrong
 abbrev pub if_at_most : {X : Type 0} → ℕ → List X → Result (List X) FlatError
 if_at_most n xs = if nat_lt n (length xs) then Err (faults.Shape 0) else Ok xs
 
@@ -56,7 +56,7 @@ label_read d = or_wrong_form (as_str d)
 unfoldable pub labels : ℕ → Reader (List (List ℕ))
 labels n d = list_read label_read d >>= if_at_most n
 
--- ---- boundary cells
+-- ---- boundary values
 
 abbrev pub cell_read : Reader BoundaryPublic
 cell_read d = or_wrong_form (cell_of d)
@@ -81,11 +81,11 @@ or_absent absent read (Some d) = read d
 abbrev pub optional_read : {X : Type 0} → List ℕ → X → Reader X → Reader X
 optional_read name absent read d = or_absent absent read (get name d)
 
--- one reader and then another, which what the first one read determines
+-- two readers in turn, where the result of the first determines the second
 abbrev pub then_read : {X Y : Type 0} → Reader X → (X → Reader Y) → Reader (X × Y)
 then_read read next d = read d >>= λ x. next x d >>= λ y. Ok (x, y)
 
--- one reader and then another
+-- two readers in turn
 abbrev pub both_read : {X Y : Type 0} → Reader X → Reader Y → Reader (X × Y)
 both_read read next d = then_read read (λ _. next) d
 

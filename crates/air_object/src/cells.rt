@@ -1,4 +1,4 @@
-//! Boundary cells.
+//! Boundary values.
 ghost use Rattle.std.specs.Prelude.{◌≡◌, []};
 ghost use Rattle.serde_json.specs.View.{view, items_view};
 ghost use Rattle.air_json.specs.Results.{Gives};
@@ -26,7 +26,7 @@ fn cells_of(alloc: Global, items: &[Value]) -> Result<Vec<BoundaryPublic>, FlatE
     Ok(cells)
 }
 
-/// The cells that the value lists.
+/// The boundary values that the value lists.
 #[tactic(auto, unfolding(crate::specs::Readers::cells))]
 pub fn cells_from(alloc: Global, value: &Value) -> Result<Vec<BoundaryPublic>, FlatError>
     ensures { Gives (λ v. v.items) result (cells (view value.now)) }

@@ -15,7 +15,7 @@ use air_symbolic::{BaseLeaf, ExprId, ExprPool};
 use serde_json::Value;
 use std::alloc::Global;
 
-/// The pool of the constraints, one of its expressions, and the roots of all.
+/// The pool of the constraints, the id of one of its expressions, and the ids of all roots.
 pub type BasePool<F> = ExprPool<BaseLeaf<F>>;
 
 pub type BaseId<F> = ExprId<BaseLeaf<F>>;
@@ -25,14 +25,14 @@ pub type Roots<F> = Vec<BaseId<F>>;
 /// A root, or the first fault of its list.
 pub(crate) type Root<F> = Result<BaseId<F>, FlatError>;
 
-/// Constraints that are read before it is their turn: the pool of their lists, and their roots or the first fault.
+/// Constraints that are read ahead of other members: the pool of their lists, and their roots or the first fault.
 #[derive(Drop)]
 pub struct Constraints<F: Field> {
     pub pool: BasePool<F>,
     pub roots: Result<Roots<F>, FlatError>,
 }
 
-/// The root of the list that the value is.
+/// The root of the list in the value.
 pub(crate) fn root_from<F: PrimeField64>(
     alloc: Global,
     pool: &mut BasePool<F>,
@@ -60,7 +60,7 @@ fn roots_of<F: PrimeField64>(
     Ok(roots)
 }
 
-/// The roots of the lists that the value lists.
+/// The roots of the lists in the value.
 #[tactic(auto, unfolding(crate::specs::Readers::trees))]
 pub fn roots_from<F: PrimeField64>(
     alloc: Global,
@@ -74,7 +74,7 @@ pub fn roots_from<F: PrimeField64>(
     roots_of(alloc, pool, items)
 }
 
-/// No list.
+/// No constraints.
 pub fn no_constraints<F: PrimeField64>(alloc: Global) -> Constraints<F>
     ensures { AreGiven (Ok []) result }
 {
@@ -84,7 +84,7 @@ pub fn no_constraints<F: PrimeField64>(alloc: Global) -> Constraints<F>
     }
 }
 
-/// What an object without the member has.
+/// The fault of an object without the member.
 pub fn missing_constraints<F: PrimeField64>(alloc: Global) -> Constraints<F>
     ensures { AreGiven (Err (Shape 0)) result }
 {
@@ -94,7 +94,7 @@ pub fn missing_constraints<F: PrimeField64>(alloc: Global) -> Constraints<F>
     }
 }
 
-/// The roots, and one more, or the first fault.
+/// The roots and one more, or the first fault.
 pub(crate) fn with_root<F: PrimeField64>(
     roots: Result<Roots<F>, FlatError>,
     root: Root<F>,
@@ -106,7 +106,7 @@ pub(crate) fn with_root<F: PrimeField64>(
     Ok(roots)
 }
 
-/// The constraints of the lists that the value lists.
+/// The constraints in the value.
 pub fn constraints_listed<F: PrimeField64>(alloc: Global, value: &Value) -> Constraints<F>
     ensures { AreGiven (trees F.residues (view value.now)) result }
 {

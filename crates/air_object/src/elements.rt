@@ -12,7 +12,7 @@ use air_json::{FlatError, element_from};
 use serde_json::Value;
 use std::alloc::Global;
 
-/// Field elements that are read before it is their turn, or their first fault.
+/// Field elements that are read ahead of other members, or their first fault.
 pub type Elements<F> = Result<Vec<F>, FlatError>;
 
 fn elements_of<F: PrimeField64>(alloc: Global, items: &[Value]) -> Result<Vec<F>, FlatError>
@@ -27,7 +27,7 @@ fn elements_of<F: PrimeField64>(alloc: Global, items: &[Value]) -> Result<Vec<F>
     Ok(elements)
 }
 
-/// The elements that the value lists by their canonical numbers.
+/// The elements in the value, by their canonical numbers.
 #[tactic(auto, unfolding(crate::specs::Readers::elements))]
 pub fn elements_from<F: PrimeField64>(alloc: Global, value: &Value) -> Result<Vec<F>, FlatError>
     ensures { Gives (λ v. v.items) result (elements F.residues (view value.now)) }
@@ -36,21 +36,21 @@ pub fn elements_from<F: PrimeField64>(alloc: Global, value: &Value) -> Result<Ve
     elements_of(alloc, items)
 }
 
-/// No element.
+/// No elements.
 pub(crate) fn no_elements<F: PrimeField64>(alloc: Global) -> Elements<F>
     ensures { AreElements (Ok []) result }
 {
     Ok(Vec::new(alloc))
 }
 
-/// What an object without the member has.
+/// The fault of an object without the member.
 pub(crate) fn missing_elements<F: PrimeField64>() -> Elements<F>
     ensures { AreElements (Err (Shape 0)) result }
 {
     Err(FlatError::Shape { at: 0 })
 }
 
-// The elements, and that of the value, or its fault.
+// Appends the element in the value, or answers its fault.
 fn push_element<F: PrimeField64>(mut before: Vec<F>, item: &Value) -> Elements<F>
     ensures { AreElements (read_one_more (element_at F.residues 0) (Ok before.items)
         (view item.now)) result }
@@ -60,7 +60,7 @@ fn push_element<F: PrimeField64>(mut before: Vec<F>, item: &Value) -> Elements<F
     Ok(before)
 }
 
-/// The elements, and that of the value; behind a fault no further one is read.
+/// Appends the element in the value; after a fault, no further element is read.
 pub(crate) fn with_element<F: PrimeField64>(before: Elements<F>, item: &Value) -> Elements<F>
     ensures { (given : GivenElements F) → AreElements given before
         → AreElements (read_one_more (element_at F.residues 0) given (view item.now)) result }
@@ -83,7 +83,7 @@ fn columns_of<F: PrimeField64>(alloc: Global, items: &[Value]) -> Result<Vec<Vec
     Ok(columns)
 }
 
-/// The lists of elements that the value lists.
+/// The lists of elements in the value.
 #[tactic(auto, unfolding(crate::specs::Readers::columns))]
 pub fn columns_from<F: PrimeField64>(alloc: Global, value: &Value) -> Result<Vec<Vec<F>>, FlatError>
     ensures { Gives (λ v. map (λ c. c.items) v.items) result

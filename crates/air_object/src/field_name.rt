@@ -1,4 +1,4 @@
-//! The fields that an object may be over.
+//! The fields over which an object may be.
 ghost use Rattle.std.specs.Prelude.{◌≡◌, codes};
 ghost use Rattle.serde_json.specs.View.{view};
 ghost use Rattle.air_json.specs.Parts.{find_name};
@@ -6,7 +6,7 @@ ghost use Rattle.air_object.specs.Fields.{field_names, field_of};
 
 use serde_json::Value;
 
-/// A field that an object may be over.
+/// A field over which an object may be.
 #[derive(Clone, Copy, Debug, PartialEq, Eq, Drop)]
 pub enum FieldName {
     BabyBear,
@@ -15,7 +15,7 @@ pub enum FieldName {
     Goldilocks,
 }
 
-/// The field of this name, if it is that of one.
+/// The field with this name, if there is one.
 fn field_named(name: &str) -> Option<FieldName>
     ensures { result ≡ find_name field_names name.now }
 {
@@ -32,8 +32,8 @@ fn field_named(name: &str) -> Option<FieldName>
     }
 }
 
-/// The field that the object's member `field` names: `BabyBear` where there is no such member, and nothing where it is
-/// another value than the text of a field's name.
+/// The field that the object's member `field` names: `BabyBear` without the member; `None` if its value isn't the text
+/// of a field's name.
 #[tactic(auto, unfolding(crate::specs::Fields::field_of))]
 pub fn field_of(value: &Value) -> Option<FieldName>
     ensures { result ≡ field_of (view value.now) }

@@ -16,32 +16,33 @@ use air_symbolic::{BaseLeaf, ExprId, ExprPool};
 use serde_json::Value;
 use std::alloc::Global;
 
-/// An AIR's constraints, preprocessed table, public values, periodic columns and boundary cells, with a trace, a cap and
-/// a domain's weight.
+/// An AIR's constraints, preprocessed trace, public values, periodic columns and boundary values, with a main trace, a
+/// cap and the weight of the transition selector.
 #[derive(Drop)]
 pub struct FlatInput<F: Field> {
     /// The expressions of the constraints.
     pub pool: ExprPool<BaseLeaf<F>>,
     /// The constraints.
     pub roots: Vec<ExprId<BaseLeaf<F>>>,
-    /// The trace.
+    /// The main trace.
     pub main: RowMajorMatrix<F>,
-    /// The preprocessed table, if there is one.
+    /// The preprocessed trace, if there is one.
     pub preprocessed: Option<RowMajorMatrix<F>>,
     pub public_values: Vec<F>,
-    /// The periodic columns, each of a length of its own.
+    /// The periodic columns, each with its own length.
     pub periodic: Vec<Vec<F>>,
-    /// The boundary cells.
+    /// The boundary values.
     pub cells: Vec<BoundaryPublic>,
-    /// How many failures are wanted at most.
+    /// The number of failures at which a check stops, if there is a limit.
     pub cap: Option<usize>,
-    /// What the transition selector weighs in the domain; 0 where it is linear.
+    /// The degree weight of the transition selector in the domain; 0 if the selector is linear.
     pub transition_weight: usize,
-    /// The labels of the constraints, in order. A constraint past their end has none, nor has one whose label is empty.
+    /// The labels of the constraints, in order. A constraint past the end of the list, or with an empty label, has
+    /// none.
     pub labels: Vec<String>,
 }
 
-// The preprocessed table of the values.
+// The preprocessed trace with these values.
 fn table_of<F: PrimeField64>(
     values: Option<RowValues<F>>,
 ) -> Result<Option<RowMajorMatrix<F>>, MatrixError>
@@ -53,7 +54,7 @@ fn table_of<F: PrimeField64>(
     }
 }
 
-/// The input of an object whose trace and constraints are read already, and whose other members the value has.
+/// Completes an input from the parsed trace and constraints; `value` holds the other members.
 pub fn input_from<F: PrimeField64>(
     alloc: Global,
     value: &Value,
@@ -84,14 +85,18 @@ pub fn input_from<F: PrimeField64>(
     })
 }
 
-/// Reads the object as one over F, whatever its member `field` says, at which it doesn't look: its members in the order
-/// `main_width`, `main` (row after row), `preprocessed_width`, `preprocessed` (the table's values, row after row),
-/// `public_values`, `constraints` (lists of nodes), `periodic`, `boundary`, `cap`, `transition_weight` and `labels`
-/// (texts, no more than there are constraints). The last five may be absent, and `cap` may be null; no weight is the
-/// weight 0. The two of the preprocessed table may be absent together, and there is then no table; where one of them is
-/// there, the other is needed. Any other value is refused with the first fault in this order; values that aren't whole
-/// rows of their width are `Ragged` after all members, those of the trace before those of the table. Other members are
-/// ignored. The place in a refusal is that of a node in its constraint's own list, and 0 in all other members.
+/// Reads the object as one over F. It doesn't look at the member `field`. The other members are read in the order
+/// `main_width`, `main` (row after row), `preprocessed_width`, `preprocessed` (row after row), `public_values`,
+/// `constraints` (lists of nodes), `periodic`, `boundary`, `cap`, `transition_weight` and `labels` (texts, at most one
+/// for each constraint). The last five are optional, `cap` may be null, and the default weight is 0.
+/// `preprocessed_width` and `preprocessed` may both be absent, and then there is no preprocessed trace; if one is
+/// present, the other is required. Further members are ignored.
+///
+/// # Errors
+///
+/// The first fault in this order. After all members, `Ragged` if the values of the main trace, or else of the
+/// preprocessed trace, aren't whole rows of their width. `Memory` may replace any fault. The index in a fault is that
+/// of a node within its constraint's list, and 0 for all other members.
 pub fn flat_input_from<F: PrimeField64>(
     alloc: Global,
     value: &Value,

@@ -22,7 +22,7 @@ pub struct Labelled<F: Field> {
     pub labels: Vec<String>,
 }
 
-/// The constraints, which are read already, with the labels that the object has, or the first fault.
+/// Completes parsed constraints with the labels of the object, or answers the first fault.
 pub fn labelled_from<F: PrimeField64>(
     alloc: Global,
     value: &Value,

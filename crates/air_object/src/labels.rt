@@ -28,7 +28,7 @@ fn labels_of(alloc: Global, items: &[Value]) -> Result<Vec<String>, FlatError>
     Ok(labels)
 }
 
-// The labels that the value lists, at most so many.
+// The labels in the value, at most `most` of them.
 #[tactic(auto, unfolding(crate::specs::Readers::labels))]
 fn labels_from(alloc: Global, value: &Value, most: usize) -> Result<Vec<String>, FlatError>
     ensures { Gives (λ v. map string_bytes v.items) result (labels most (view value.now)) }
@@ -41,7 +41,7 @@ fn labels_from(alloc: Global, value: &Value, most: usize) -> Result<Vec<String>,
     Ok(labels)
 }
 
-/// The labels of an object that has so many constraints.
+/// The labels of an object with this number of constraints.
 #[tactic(auto, unfolding(crate::specs::Readers::labels_member))]
 pub(crate) fn labels_at(
     alloc: Global,

@@ -1,4 +1,4 @@
-//! What callers rely on, as the contract of a function.
+//! A law of the reading, as the contract of a function.
 ghost use Rattle.std.specs.Prelude.{◌≡◌};
 ghost use Rattle.serde_json.specs.Data.{Data};
 ghost use Rattle.air_core.specs.declared.errors.AirError.{AirError};
@@ -8,7 +8,7 @@ ghost use Rattle.air_object.specs.declared.input.FlatInput.{FlatInput};
 
 use air_field::PrimeField64;
 
-/// A value spells the members of one input at most, has one first fault at most, and never both.
+/// A value spells the members of at most one input, has at most one first fault, and never both.
 pub fn inputs_are_read_one_way<F: PrimeField64>()
     ensures one_value { (d : Data) (m n : MemberValues F) →
         (members F.residues).spells d m → (members F.residues).spells d n → m ≡ n }

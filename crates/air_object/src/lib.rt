@@ -1,4 +1,4 @@
-//! A JSON object that an AIR and its trace are read from: its members, its field, and the first fault of one that is none.
+//! An AIR and its trace as a JSON object: reading its members and its field, and the first fault if it is malformed.
 #![tactic(auto)]
 
 mod cells;

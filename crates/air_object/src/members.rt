@@ -19,14 +19,14 @@ use air_json::{FlatError, whole_number};
 use serde_json::Value;
 use std::alloc::Global;
 
-/// Values for rows of a width.
+/// Values of whole rows, and their width.
 #[derive(Drop)]
 pub struct RowValues<F: Field> {
     pub width: usize,
     pub values: Vec<F>,
 }
 
-/// What the members spell, before the matrices are made.
+/// The values of the members, before the matrices are made.
 #[derive(Drop)]
 pub struct Members<F: Field> {
     pub main_width: usize,
@@ -56,7 +56,7 @@ fn width_at(value: &Value, name: &str) -> Result<usize, FlatError>
     whole_number(width).ok_or(FlatError::Shape { at: 0 })
 }
 
-/// The elements of the member of this name.
+/// The elements in the member with this name.
 #[tactic(auto, unfolding(crate::specs::Readers::elements_member))]
 pub(crate) fn elements_at<F: PrimeField64>(alloc: Global, value: &Value, name: &str) -> Elements<F>
     ensures { Gives (λ v. v.items) result
@@ -132,8 +132,8 @@ fn weight_from(value: &Value) -> Result<usize, FlatError>
     }
 }
 
-/// The members that the object spells, or the first fault among them. Its trace and its constraints are read already,
-/// and it needn't hold them.
+/// The members of the object, or the first fault. Its trace and its constraints are already read; the value doesn't
+/// need to hold them.
 #[tactic(auto, unfolding(crate::specs::Parts::members_with))]
 pub fn members_from<F: PrimeField64>(
     alloc: Global,

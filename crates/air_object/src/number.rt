@@ -39,7 +39,7 @@ fn negative_number(numeral: &Numeral<'_>) -> Option<Number>
     nearest_number(true, numeral)
 }
 
-/// The number that a token writes, where a JSON value may hold it.
+/// The number that a token spells, if a JSON value can hold it.
 pub fn number_of(text: &str) -> Option<Number>
     ensures { option_map number_view result ≡ number_of text.now }
 {

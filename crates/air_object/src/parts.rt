@@ -1,5 +1,5 @@
-//! The JSON object as its text is read: the trace number by number and the constraints node by node, so that no more
-//! than one of either is held as a value.
+//! Reading the JSON object from its text: the trace number by number and the constraints node by node, so that at most
+//! one number or node is a JSON value at a time.
 ghost use Rattle.std.specs.Prelude.{◌≡◌, ◌≢◌, ◌<◌, [], length, Err, Some, None, IfOk, IfErr, OnOk};
 ghost use Rattle.serde_json.specs.Data.{Data, array, Items, Members};
 ghost use Rattle.serde_json.specs.Read.{read};
@@ -27,7 +27,7 @@ use std::alloc::Global;
 
 const MAX_DEPTH: usize = 127;
 
-/// An object's trace, its constraints, and a value that has its other members.
+/// An object's trace and constraints, and a value with its other members.
 #[derive(Drop)]
 pub struct Parts<F: Field> {
     pub rest: Value,
@@ -35,7 +35,7 @@ pub struct Parts<F: Field> {
     pub constraints: Constraints<F>,
 }
 
-// The elements, and the one that begins where the reader stands.
+// Reads a value, and appends its element.
 fn read_element<F: PrimeField64>(
     alloc: Global,
     reader: &mut Reader<'_>,
@@ -53,7 +53,7 @@ fn read_element<F: PrimeField64>(
     Ok(with_element(elements, &item))
 }
 
-// The elements of the array in which the reader stands.
+// The elements in the rest of the current array.
 fn read_items<F: PrimeField64>(
     alloc: Global,
     reader: &mut Reader<'_>,
@@ -72,7 +72,7 @@ fn read_items<F: PrimeField64>(
     Ok(elements)
 }
 
-// The elements of the value that begins where the reader stands.
+// The elements in the next value.
 fn read_elements<F: PrimeField64>(
     alloc: Global,
     reader: &mut Reader<'_>,
@@ -90,7 +90,7 @@ fn read_elements<F: PrimeField64>(
     }
 }
 
-// The root of the list of nodes in which the reader stands, node by node.
+// The root of the list of nodes in the rest of the current array, read node by node.
 fn read_nodes<F: PrimeField64>(
     alloc: Global,
     reader: &mut Reader<'_>,
@@ -111,7 +111,7 @@ fn read_nodes<F: PrimeField64>(
     Ok(list.root())
 }
 
-// The root of the value that begins where the reader stands.
+// The root of the list in the next value.
 fn read_root<F: PrimeField64>(
     alloc: Global,
     reader: &mut Reader<'_>,
@@ -130,7 +130,7 @@ fn read_root<F: PrimeField64>(
     }
 }
 
-// The constraints, and the list that begins where the reader stands.
+// Reads a list of nodes, and appends its root to the constraints.
 fn read_list<F: PrimeField64>(
     alloc: Global,
     reader: &mut Reader<'_>,
@@ -151,7 +151,7 @@ fn read_list<F: PrimeField64>(
     Ok(Constraints { pool, roots })
 }
 
-// The lists of the array in which the reader stands.
+// The constraints in the rest of the current array.
 fn read_lists<F: PrimeField64>(
     alloc: Global,
     reader: &mut Reader<'_>,
@@ -170,7 +170,7 @@ fn read_lists<F: PrimeField64>(
     Ok(constraints)
 }
 
-// The constraints of the value that begins where the reader stands.
+// The constraints in the next value.
 fn read_constraints<F: PrimeField64>(
     alloc: Global,
     reader: &mut Reader<'_>,
@@ -188,7 +188,7 @@ fn read_constraints<F: PrimeField64>(
     }
 }
 
-// The members of the object in which the reader stands.
+// The members in the rest of the current object, with the trace and the constraints apart.
 fn read_apart<F: PrimeField64>(
     alloc: Global,
     reader: &mut Reader<'_>,
@@ -216,7 +216,7 @@ fn read_apart<F: PrimeField64>(
     Ok((rest, main, constraints))
 }
 
-// The parts of the value that begins where the reader stands.
+// The parts of the next value.
 fn read_parts<F: PrimeField64>(
     alloc: Global,
     reader: &mut Reader<'_>,
@@ -249,7 +249,7 @@ fn read_parts<F: PrimeField64>(
     })
 }
 
-/// The parts of the value that the text is.
+/// The parts of the text's JSON value.
 pub fn parts_of<F: PrimeField64>(alloc: Global, text: &str) -> Result<Parts<F>, TextFault>
     ensures ok { IfOk result (λ p. (d : Data) × (read text.now ≡ Some d)
         × ArePartsOf F.residues d (view p.rest) p.main p.constraints) }

@@ -1,4 +1,4 @@
-//! The JSON values of a text, each read where a reader stands.
+//! JSON values read from a text.
 ghost use Rattle.std.specs.Prelude.{◌≡◌, ◌<◌, ◌≤◌, ◌∷◌, length, Err, Some, None, IfOk, OnOk};
 ghost use Rattle.json.specs.Reads.{token_of};
 ghost use Rattle.serde_json.specs.View.{view, items_view, members_view};
@@ -9,10 +9,10 @@ use json::{Invalid, Reader, Token};
 use serde_json::{Map, Value};
 use std::alloc::{AllocError, AllocFailed, Global};
 
-/// Why a text isn't read.
+/// Why a text can't be read.
 #[derive(Clone, Copy, Debug, PartialEq, Eq, Drop)]
 pub enum TextFault {
-    /// It is no JSON value.
+    /// It is not a JSON value.
     Json,
     Memory,
 }
@@ -47,16 +47,16 @@ impl<T: Drop> From<AllocFailed<T>> for TextFault {
     }
 }
 
-/// What begins a value.
+/// The beginning of a value.
 #[derive(Drop)]
 pub enum Beginning {
-    /// An array, whose items are at most so deep.
+    /// An array; its items may be nested at most this many levels.
     Array(usize),
-    /// Another value, and its end.
+    /// Any other value, read to its end.
     Other(Value),
 }
 
-/// What begins where the reader stands.
+/// Reads the beginning of the next value.
 pub fn read_beginning(
     alloc: Global,
     reader: &mut Reader<'_>,
@@ -77,7 +77,7 @@ pub fn read_beginning(
     Ok(Beginning::Other(other))
 }
 
-/// The value that begins where the reader stands.
+/// Reads the next value.
 #[cycle(read)]
 pub fn read(alloc: Global, reader: &mut Reader<'_>, depth: usize) -> Result<Value, TextFault>
     ensures ok { IfOk result (λ v. value_at depth reader.old ≡ Some (view v, reader.new)) }
@@ -88,7 +88,7 @@ pub fn read(alloc: Global, reader: &mut Reader<'_>, depth: usize) -> Result<Valu
     read_from(alloc, token, reader, depth)
 }
 
-/// The value that begins with the token, behind which the reader stands.
+/// Reads the value that begins with `token`, which the reader has already passed.
 #[cycle(read)]
 pub fn read_from(
     alloc: Global,

@@ -1,4 +1,4 @@
--- Counts, one place after another.
+-- Counts, one use after another.
 use Rattle.std.specs.Prelude.{slice_get}
 use Rattle.std.proofs.Common.{◌≡◌, ◌≢◌, ℕ, ◌+◌, ◌<◌, true, false, cond, eqb, List, length, get_or, set, Option, None, Some, is_some, refl, sym, ap, subst, ◌∙◌, arith, ⊎_elim, add-one, length-set}
 use Rattle.std.proofs.lemmas.Bool.{cases_eq, ne_eqb}
@@ -20,7 +20,7 @@ place-same i = ap (λ b. cond b 1 0) (⊎_elim (λ (h : (eqb i i ≡ true) × (i
 place-other : (i x : ℕ) → i ≢ x → one_if_is i x ≡ 0
 place-other i x ne = ap (λ b. cond b 1 0) (ne_eqb x i (λ e. ne (sym e)))
 
--- a place that names x is counted
+-- a use of x is counted
 pub place-counted : (f : ℕ → ℕ) (counts : List Places) (x : ℕ) (new : Places) → x < length counts → ((n : ℕ) → get_or counts x Nowhere ≡ places_for n → new ≡ places_for (n + 1)) → AreCounted f counts → AreCounted (λ i. f i + one_if_is i x) (set counts x new)
 place-counted f counts x new lt now h = record {
   each = λ i b.
@@ -36,7 +36,7 @@ place-counted f counts x new lt now h = record {
       (cases_eq i x);
 }
 
--- what a mark says that was read
+-- a mark is its own index, which is below n
 pub mark-own : (n : ℕ) (marks : List (Option ℕ)) (k : ℕ) (d : Option ℕ) (id : ℕ) → AreMarks n marks → k < length marks → get_or marks k d ≡ Some id → (id ≡ k) × (id < n) × (get_or marks k None ≡ Some id)
 mark-own n marks k d id h lt e =
     let at : get_or marks k None ≡ Some id = get_or_default marks k None d lt ∙ e in
@@ -50,6 +50,6 @@ module _ {A : Type 0} (ns : List (SymbolicExpr A)) (marks : List (Option ℕ)) w
       let here : slice_get ns k ≡ Some n = subst (λ j. slice_get ns j ≡ Some n) own is in
       ap (λ o. cond (is_some o) (node_places i (slice_get ns k)) 0) at ∙ ap (node_places i) here
 
--- one number more
+-- one more expression
 pub sum-more : (f : ℕ → ℕ) (n : ℕ) → total_below f (n + 1) ≡ total_below f n + f n
 sum-more f n = ap (total_below f) (add-one n)

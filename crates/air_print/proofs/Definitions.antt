@@ -1,4 +1,4 @@
--- The lines of the names that stand for marked numbers, one after another.
+-- The lines of the names of marked expressions, one after another.
 use Rattle.std.proofs.Common.{◌≡◌, ℕ, ◌+◌, ◌<◌, ◌≤◌, Bool, true, false, cond, List, [], ◌∷◌, ◌++◌, append_assoc, append-nil, length, map, drop, get_or, Option, codes, sym, ap, refl, ◌∙◌}
 use Rattle.std.specs.List.{filter, enumerate_from}
 use Rattle.std.proofs.lemmas.List.{drop_more, drop_all}
@@ -23,7 +23,7 @@ module _ {F : Type 0} {p : ℕ} (m : Modular F p) (pool : BaseNodes F) (names : 
   abbrev pub definitions_from : ℕ → List ℕ → List ℕ
   definitions_from i xs = lines_text (map (λ (x : ℕ × ℕ). definition_line m pool names x.0 x.1) (filter (λ (x : ℕ × ℕ). is_reached marks x.1) (enumerate_from i (drop i xs))))
 
-  -- one name more was looked at
+  -- one more name is visited
   pub definition-more : (xs : List ℕ) (i x : ℕ) (old new whole : List ℕ) → i < length xs → x ≡ get_or xs i x → old ++ definitions_from i xs ≡ whole → new ≡ old ++ cond (is_reached marks x) (definition_line m pool names i x ++ codes "\n") [] → new ++ definitions_from (i + 1) xs ≡ whole
   definition-more xs i x old new whole lt is h e =
       let one = cond (is_reached marks x) (definition_line m pool names i x ++ codes "\n") [] in
@@ -35,7 +35,7 @@ module _ {F : Type 0} {p : ℕ} (m : Modular F p) (pool : BaseNodes F) (names : 
       ∙ ap (λ t. old ++ t) (sym first)
       ∙ h
 
-  -- all names were looked at
+  -- all names are visited
   pub definition-all : (xs : List ℕ) (i : ℕ) (text whole : List ℕ) → length xs ≤ i → text ++ definitions_from i xs ≡ whole → text ≡ whole
   definition-all xs i text whole past h =
       let none : definitions_from i xs ≡ [] = ap (λ ys. lines_text (map (λ (y : ℕ × ℕ). definition_line m pool names y.0 y.1) (filter (λ (y : ℕ × ℕ). is_reached marks y.1) (enumerate_from i ys)))) (drop_all i xs past) in

@@ -10,7 +10,7 @@ all_zip_more R [] (z ∷ ys) x y h r = absurd h
 all_zip_more R (z ∷ xs) [] x y h r = absurd h
 all_zip_more R (z ∷ xs) (w ∷ ys) x y h r = (h.0, all_zip_more R xs ys x y h.1 r)
 
--- one label more, and what it shows as
+-- one more label, and its shown text
 pub shown-more : (labels shown : List (String Global)) (i : ℕ) (label text : String Global) → i < length labels → label ≡ get_or labels i label
     → AllZip StandsBehind (map string_bytes (take i labels)) (map string_bytes shown)
     → StandsBehind (string_bytes label) (string_bytes text)

@@ -42,7 +42,7 @@ quoted : (label : List ℕ) (b : Bool) → list_all is_ascii label ≡ b → IfS
 quoted label false h = tt
 quoted label true h = list_all-append keeps_line (flat_map (debug_escape 34) label) (34 ∷ []) ∙ ap (λ b. b && true) (all_escaped label h)
 
--- a text that has one isn't what the label shows as
+-- a text with a line end isn't the shown text of the label
 other : (o : Option (List ℕ)) (shown text : List ℕ) → Contains shown 10 → IfSome o (λ suffix. list_all keeps_line suffix ≡ true) → IfSome o (λ suffix. shown ≡ suffix) → IfSome o (λ suffix. text ≡ suffix)
 other None shown text h k e = tt
 other (Some suffix) shown text h k e =

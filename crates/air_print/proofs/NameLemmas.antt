@@ -1,4 +1,4 @@
--- Names, one number after another.
+-- Names, one expression after another.
 use Rattle.std.specs.Prelude.{slice_get}
 use Rattle.std.proofs.Common.{◌≡◌, ℕ, zero, suc, ◌+◌, ◌<◌, ◌≤◌, Bool, true, false, ◌&&◌, cond, leb, List, [], ◌∷◌, ◌++◌, length, get_or, map, All, Result, Ok, Err, IfOk, Option, None, Some, is_some, option_map, refl, sym, ap, ap₂, ◌∙◌, arith, ⊎_elim, add-one}
 use Rattle.std.specs.Option.{option_to_list}
@@ -13,7 +13,7 @@ use Rattle.air_print.specs.Counts.{places_for, AreCounted, is_more, passes}
 use Rattle.air_print.specs.declared.counts.Places.{Places}
 use Rattle.air_print.specs.declared.counts.Places.TheVariants.{Nowhere}
 
--- ---- one number more
+-- ---- one more expression
 
 pub named-more : (test : ℕ → Bool) (n : ℕ) (o : Option ℕ) (old new : List ℕ) → o ≡ cond (test n) (Some n) None → old ≡ passing_below test n → new ≡ old ++ option_to_list o → new ≡ passing_below test (n + 1)
 named-more test n o old new is h e =
@@ -32,13 +32,13 @@ names-more test n o named old new is many h e =
     either true = refl
     either false = refl
 
--- ---- all numbers
+-- ---- all expressions
 
 module _ {A : Type 0} (ns : List (SymbolicExpr A)) (marks : List (Option ℕ)) (counts : List Places) where
   past-unmarked : (i : ℕ) → length marks ≤ i → is_reached marks i ≡ false
   past-unmarked i le = ap is_some (get_or_past marks i None le)
 
-  -- at each number its name, also past the end
+  -- the name of each expression, also past the end
   pub names-all : (names : List (Option ℕ)) (n : ℕ) → length marks ≤ n → names ≡ map (name_by (passes ns marks counts)) (range_with_len 0 n) → (i : ℕ) → get_or names i None ≡ name_by (passes ns marks counts) i
   names-all names n le e i =
       ap (λ (xs : List (Option ℕ)). get_or xs i None) e
@@ -50,7 +50,7 @@ module _ {A : Type 0} (ns : List (SymbolicExpr A)) (marks : List (Option ℕ)) (
       (past-unmarked i (omega (arith, le, past)))))
       (cases_lt i n)
 
-  -- who is named by the counts is named
+  -- the counts and the definition name the same expressions
   pub passes-is : (roots : List ℕ) → length marks ≡ length ns → length counts ≡ length ns → AreCounted (count_of_places ns roots marks) counts → (i : ℕ) → passes ns marks counts i ≡ is_named ns roots marks i
   passes-is roots same_marks same_counts h i =
       ⊎_elim
@@ -77,7 +77,7 @@ passing_below-same p q e (suc n) = ap₂ (λ xs b. xs ++ cond b (n ∷ []) []) (
 pub name_by-same : (p q : ℕ → Bool) → ((i : ℕ) → p i ≡ q i) → (i : ℕ) → name_by p i ≡ name_by q i
 name_by-same p q e i = ap₂ (λ b xs. cond b (Some (length xs)) None) (e i) (passing_below-same p q e i)
 
--- what passes below n is below k, if n isn't above it
+-- whatever passes below n is below k, if n ≤ k
 pub passing-low : (test : ℕ → Bool) (k n : ℕ) → n ≤ k → All (λ x. x < k) (passing_below test n)
 passing-low test k zero le = All-nil (λ x. x < k)
 passing-low test k (suc n) le =
@@ -87,7 +87,7 @@ passing-low test k (suc n) le =
     either true = All-cons (λ x. x < k) n [] (omega (arith, le)) (All-nil (λ x. x < k))
     either false = All-nil (λ x. x < k)
 
--- what follows of two facts on one answer
+-- two facts about one answer, combined
 pub if_both : {T E : Type 0} (P Q R : T → Type 0) (r : Result T E) → ((x : T) → P x → Q x → R x) → IfOk r P → IfOk r Q → IfOk r R
 if_both P Q R (Ok x) h p q = h x p q
 if_both P Q R (Err e) h p q = tt

@@ -1,4 +1,4 @@
--- Marks and values, one number after another.
+-- Marks and values, one expression after another.
 use Rattle.std.proofs.Common.{◌≡◌, ◌⊎◌, ℕ, ◌+◌, ◌<◌, Bool, cond, List, [], ◌∷◌, ◌++◌, length, get_or, Option, None, Some, refl, sym, ap, ap₂, subst, ◌∙◌, arith, ⊎_elim, add-one}
 use Rattle.std.proofs.lemmas.List.{get_or_default, get_or_append_left, get_or_push}
 use Rattle.air_field.specs.Ring.{CommRing, minus, self_algebra}
@@ -14,14 +14,14 @@ use Rattle.air_symbolic.specs.declared.pools.expr.SymbolicExpr.TheVariants as no
 use Rattle.air_print.specs.Names.{passing_below}
 use Rattle.air_print.specs.Values.{number_value, node_value, Known, AreClosed}
 
--- what a mark says that was read
+-- a mark is its own index
 pub mark-own : {F : Type 0} (ns : List (SymbolicExpr (BaseLeaf F))) (marks : List (Option ℕ)) (k : ℕ) (d : Option ℕ) (id : ℕ) → AreClosed ns marks → k < length marks → get_or marks k d ≡ Some id → (id ≡ k) × (id < length ns) × (get_or marks k None ≡ Some id)
 mark-own ns marks k d id h lt e =
     let at : get_or marks k None ≡ Some id = get_or_default marks k None d lt ∙ e in
     let is : id ≡ k = h.own k id at in
     (is, omega (arith, is, lt, h.places), at)
 
--- one value more is known
+-- one more value is known
 pub Known-more : {F : Type 0} (r : CommRing F) (s : Leaf → F) (ns : List (SymbolicExpr (BaseLeaf F))) (marks : List (Option ℕ)) (k : ℕ) (old new : List F) (x : F) → length old ≡ k → new ≡ old ++ x ∷ [] → Known r s ns marks k old → (Marked marks k → x ≡ number_value r s ns k) → Known r s ns marks (k + 1) new
 Known-more r s ns marks k old new x places e h now i below m =
     ap (λ (vs : List _). get_or vs i r.zero) e
@@ -41,6 +41,6 @@ node_value-is r s ns marks k values (node.Sub x y d) h b m = ap₂ (minus r) (h 
 node_value-is r s ns marks k values (node.Neg x d) h b m = ap r.neg (h x b m)
 node_value-is r s ns marks k values (node.Mul x y d) h b m = ap₂ r.mul (h x b.0 m.0) (h y b.1 m.1)
 
--- one number more was looked at
+-- one more expression is visited
 pub read-more : (test : ℕ → Bool) (n : ℕ) (old new : List ℕ) → old ≡ passing_below test n → new ≡ old ++ cond (test n) (n ∷ []) [] → new ≡ passing_below test (n + 1)
 read-more test n old new h e = e ∙ ap (λ xs. xs ++ cond (test n) (n ∷ []) []) h ∙ ap (passing_below test) (sym (add-one n))

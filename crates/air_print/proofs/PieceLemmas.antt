@@ -13,7 +13,7 @@ use Rattle.air_print.specs.declared.pieces.Piece.TheVariants.{Operand, Plus, Min
 use Rattle.air_print.specs.Infix.{Shown, shown_node, infix_text, leaf_text, opening_text, in_parentheses, wraps_sum, wraps_product}
 use Rattle.air_print.specs.Pieces.{piece_text, rest_text, pair_pieces, node_front, node_rest, IsPieceBelow, shown_size, piece_size, rest_size}
 
--- what follows of two facts on one success
+-- two facts about one success, combined
 pub on_both : {T E : Type 0} (P Q R : Type 0) (r : Result T E) → (P → Q → R) → OnOk r P → OnOk r Q → OnOk r R
 on_both P Q R (Ok x) h p q = h p q
 on_both P Q R (Err e) h p q = tt
@@ -25,7 +25,7 @@ module _ {F : Type 0} {p : ℕ} (m : Modular F p) (f : ℕ → Shown (BaseLeaf F
       ap (λ t. t ++ piece_text m f x) (rest_text-append xs ys)
       ∙ append_assoc (rest_text m f ys) (rest_text m f xs) (piece_text m f x)
 
-  -- the last piece is the next
+  -- the last piece comes next
   pub rest_text-push : (xs : List (Piece F)) (x : Piece F) → rest_text m f (xs ++ x ∷ []) ≡ piece_text m f x ++ rest_text m f xs
   rest_text-push xs x = rest_text-append xs (x ∷ [])
 
@@ -33,7 +33,7 @@ module _ {F : Type 0} {p : ℕ} (m : Modular F p) (f : ℕ → Shown (BaseLeaf F
   pair-text true left operator right = simp append_assoc
   pair-text false left operator right = simp (append_assoc, append-nil)
 
-  -- how a node begins, and what follows, is its text
+  -- the front of a node and its remaining pieces make up its text
   pub node-text : (within : Binding) (n : SymbolicExpr (BaseLeaf F)) → node_front m within n ++ rest_text m f (node_rest within n) ≡ infix_text m within (shown_node f n)
   node-text within (Leaf a) = append-nil (leaf_text m within a)
   node-text within (Add x y d) = pair-text (wraps_sum within) (Operand x Loose) Plus (Operand y Summand)
@@ -41,7 +41,7 @@ module _ {F : Type 0} {p : ℕ} (m : Modular F p) (f : ℕ → Shown (BaseLeaf F
   node-text within (Neg x d) = refl
   node-text within (Mul x y d) = pair-text (wraps_product within) (Operand x Summand) Times (Operand y Factor)
 
-  -- a node was begun, and what follows it left
+  -- after the front of a node is written, its remaining pieces are left
   pub left-text : (within : Binding) (n : SymbolicExpr (BaseLeaf F)) (old : List ℕ) (rest : List (Piece F)) → (old ++ node_front m within n) ++ rest_text m f (rest ++ node_rest within n) ≡ old ++ (infix_text m within (shown_node f n) ++ rest_text m f rest)
   left-text within n old rest =
       ap (λ t. (old ++ node_front m within n) ++ t) (rest_text-append rest (node_rest within n))
@@ -68,7 +68,7 @@ module _ {F : Type 0} (f : ℕ → Shown (BaseLeaf F)) where
   node-size within (Neg x d) = omega arith
   node-size within (Mul x y d) = omega (arith, pair-size (wraps_product within) (Operand x Summand) Times (Operand y Factor) refl)
 
-  -- what a node leaves is less than the node
+  -- the pieces that a node leaves are smaller than the node
   pub left-size : (within : Binding) (n : SymbolicExpr (BaseLeaf F)) (rest : List (Piece F)) → rest_size f (rest ++ node_rest within n) < rest_size f rest + shown_size (shown_node f n)
   left-size within n rest = omega (arith, rest_size-append rest (node_rest within n), node-size within n)
 
@@ -88,6 +88,6 @@ module _ {F : Type 0} (k : ℕ) where
   node-below within (Neg x d) h = All-cons (IsPieceBelow k) (Operand x Negated) [] h (All-nil (IsPieceBelow k))
   node-below within (Mul x y d) h = pair-below (wraps_product within) (Operand x Summand) Times (Operand y Factor) h.0 tt h.1
 
-  -- the pieces that a node leaves name numbers below k
+  -- the pieces that a node leaves refer to expressions below k
   pub left-below : (within : Binding) (n : SymbolicExpr (BaseLeaf F)) (rest : List (Piece F)) → OperandsBelow k n → All (IsPieceBelow k) rest → All (IsPieceBelow k) (rest ++ node_rest within n)
   left-below within n rest h a = All-append (IsPieceBelow k) rest (node_rest within n) a (node-below within n h)

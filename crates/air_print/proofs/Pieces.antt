@@ -13,7 +13,7 @@ use Rattle.air_print.specs.Lines.{lines_text}
 use Rattle.air_print.specs.Equations.{equation_lines}
 use Rattle.air_print.specs.Rows.{periodic_at}
 
--- an entry that isn't there
+-- a missing entry
 pub entry-none : {F : Type 0} (rows : List (List F)) (row column : ℕ) (z : F) → option_and_then (λ (r : List F). slice_get r column) (slice_get rows row) ≡ None → z ≡ slice_index_or (row_or_none (slice_get rows row)) column z
 entry-none {F} rows row column z = within (slice_get rows row)
   where
@@ -21,17 +21,17 @@ entry-none {F} rows row column z = within (slice_get rows row)
     within None h = sym (get_or_past [] column z (omega arith))
     within (Some r) h = ap (λ o. unwrap_or o z) (sym h) ∙ unwrap_or-slice_get r column z
 
--- a periodic column that is there
+-- an existing periodic column
 pub periodic-within : {F : Type 0} (columns : List (Vec F Global)) (row i : ℕ) (z : F) (x : Vec F Global) → i < length columns → x ≡ get_or columns i x → slice_index_or x.items (row % length x.items) z ≡ periodic_at z columns row i
 periodic-within [] row i z x lt is = absurd (omega (arith, lt))
 periodic-within (y ∷ ys) row zero z x lt is = ap (λ (v : Vec _ Global). slice_index_or v.items (row % length v.items) z) is
 periodic-within (y ∷ ys) row (suc i) z x lt is = periodic-within ys row i z x (omega (arith, lt)) is
 
--- the pieces of a cell's line are its text
+-- the pieces of a boundary value's line make up its text
 pub cell-pieces : (old sp a comma b n : List ℕ) → ((((old ++ sp) ++ a) ++ comma) ++ b) ++ n ≡ old ++ (((sp ++ (a ++ (comma ++ b))) ++ n) ++ [])
 cell-pieces old sp a comma b n = simp (append_assoc, append-nil)
 
--- what is written before the end of a line of equations
+-- the text written before the end of a line of equations
 pub begun : (ℕ → List ℕ) → List ℕ → List ℕ
 begun f [] = []
 begun f (x ∷ xs) = codes "  " ++ (f x ++ flat_map (λ y. codes ", " ++ y) (map f xs))
@@ -57,7 +57,7 @@ begun-step f (y ∷ ys) (suc k) x lt =
     ∙ further-pieces (codes "  ") (f y) (flat_map more (map f zs)) (codes ", " ++ f x)
     ∙ ap (λ (b : Bool). (codes "  " ++ (f y ++ flat_map more (map f zs))) ++ (cond b (codes "  ") (codes ", ") ++ f x)) (sym (ne_eqb (suc k) 0 (λ e. absurd (omega arith))))
 
--- one equation more
+-- one more equation
 pub begun-more : (f : ℕ → List ℕ) (xs : List ℕ) (i x : ℕ) (first : Bool) (start old mid new : List ℕ) → i < length xs → x ≡ get_or xs i x → first ≡ eqb i 0 → old ≡ start ++ begun f (take i xs) → mid ≡ old ++ cond first (codes "  ") (codes ", ") → new ≡ mid ++ f x → new ≡ start ++ begun f (take (i + 1) xs)
 begun-more f xs i x first start old mid new lt is at h separated equated =
     let here : take (i + 1) xs ≡ take i xs ++ x ∷ [] = take_more xs i x lt ∙ ap (λ v. take i xs ++ v ∷ []) (sym is) in
@@ -68,7 +68,7 @@ begun-more f xs i x first start old mid new lt is at h separated equated =
     ∙ append_assoc (start ++ b) s (f x) ∙ append_assoc start b (s ++ f x)
     ∙ ap (λ t. start ++ t) (sym (begun-step f xs i x lt) ∙ ap (begun f) (sym here))
 
--- none was written
+-- no equation was written
 pub begun-none : (f : ℕ → List ℕ) (xs : List ℕ) (i : ℕ) (start text : List ℕ) → length xs ≤ i → true ≡ eqb (length xs) 0 → text ≡ start ++ begun f (take i xs) → text ≡ start ++ lines_text (equation_lines (map f xs))
 unfolding begun
 begun-none f [] i start text le e h = h ∙ ap (λ (ys : List ℕ). start ++ begun f ys) (take_all i [] le)
@@ -76,7 +76,7 @@ begun-none f (x ∷ xs) i start text le e h =
     let no : true ≡ false = e ∙ ne_eqb (length (x ∷ xs)) 0 (λ z. absurd (omega arith)) in
     cc no
 
--- all were written
+-- all equations were written
 pub begun-all : (f : ℕ → List ℕ) (xs : List ℕ) (i : ℕ) (start text new : List ℕ) → length xs ≤ i → false ≡ eqb (length xs) 0 → text ≡ start ++ begun f (take i xs) → new ≡ text ++ codes "\n" → new ≡ start ++ lines_text (equation_lines (map f xs))
 unfolding begun
 begun-all f [] i start text new le e h ended = cc

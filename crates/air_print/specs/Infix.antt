@@ -11,9 +11,9 @@ use Rattle.air_symbolic.specs.declared.pools.expr.SymbolicExpr.TheVariants.{Leaf
 use Rattle.air_print.specs.declared.binding.Binding.{Binding}
 use Rattle.air_print.specs.declared.binding.Binding.TheVariants.{Loose, Summand, Factor, Negated}
 
--- ---- what is shown
+-- ---- shown expressions
 
--- An expression as it is shown: where a name stands for a part, it ends. `nothing` stands where there is no node.
+-- An expression as it is shown: a name ends it. `nothing` is shown for a missing node.
 pub data Shown (A : Type 0) : Type 0 where
   nothing : Shown A
   leaf : A → Shown A
@@ -23,7 +23,7 @@ pub data Shown (A : Type 0) : Type 0 where
   negative : Shown A → Shown A
   product : Shown A → Shown A → Shown A
 
--- a node, its operands shown as f says
+-- a node, with its operands shown by f
 abbrev pub shown_node : {A : Type 0} → (ℕ → Shown A) → SymbolicExpr A → Shown A
 shown_node f (Leaf a) = leaf a
 shown_node f (Add x y d) = sum (f x) (f y)
@@ -31,22 +31,22 @@ shown_node f (Sub x y d) = difference (f x) (f y)
 shown_node f (Neg x d) = negative (f x)
 shown_node f (Mul x y d) = product (f x) (f y)
 
--- the name, if there is one, in place of what has it
+-- the name, if there is one; otherwise t
 abbrev pub named_or : {A : Type 0} → Option ℕ → Shown A → Shown A
 named_or None t = t
 named_or (Some k) t = name k
 
--- number i by its node, each operand by its name if `named` has one for it
+-- expression i by its node, with each operand by its name if `named` gives it one
 abbrev pub shown_at : {A : Type 0} → (ℕ → Option ℕ) → List (SymbolicExpr A) → ℕ → Shown A
 shown_at named ns i = slice_index_or (in_turn nothing (λ f. shown_node (λ x. named_or (named x) (f x))) [] ns) i nothing
 
--- number i where an expression names it
+-- expression i as an operand or root: by its name, if it has one
 abbrev pub shown_number : {A : Type 0} → (ℕ → Option ℕ) → List (SymbolicExpr A) → ℕ → Shown A
 shown_number named ns i = named_or (named i) (shown_at named ns i)
 
 -- ---- leaves
 
--- a table in the row that is o rows further on
+-- the name of a trace at the row o rows further on
 abbrev pub rows_text : List ℕ → List ℕ → ℕ → List ℕ
 rows_text here next o =
     if o == 0 then here else
@@ -58,28 +58,28 @@ entry_text (Main o) = rows_text (codes "main") (codes "next") o
 entry_text Periodic = codes "periodic"
 entry_text Public = codes "public"
 
--- the canonical number n, or -(p - n) where n is above p / 2
+-- the canonical number n, or -(p - n) if n > p/2
 abbrev pub constant_text : {F : Type 0} {p : ℕ} → Modular F p → F → List ℕ
 constant_text {p = p} m c =
     if nat_lt p (2 * m.value c) then codes "-" ++ decimal (p - m.value c) else decimal (m.value c)
 
 -- ---- parentheses
 
--- a sum or a difference needs them but in front of a plus or a minus
+-- a sum or a difference needs parentheses, except before a plus or a minus
 abbrev pub wraps_sum : Binding → Bool
 wraps_sum Loose = false
 wraps_sum Summand = true
 wraps_sum Factor = true
 wraps_sum Negated = true
 
--- a product needs them behind a times, and behind the minus of a negative
+-- a product needs parentheses after a times, and after a unary minus
 abbrev pub wraps_product : Binding → Bool
 wraps_product Loose = false
 wraps_product Summand = false
 wraps_product Factor = true
 wraps_product Negated = true
 
--- a constant needs them behind the minus of a negative, since a constant may have a minus of its own
+-- a constant needs parentheses after a unary minus, since it may begin with a minus itself
 abbrev pub wraps_constant : Binding → Bool
 wraps_constant Loose = false
 wraps_constant Summand = false
@@ -92,7 +92,7 @@ opening_text wrap = if wrap then codes "(" else []
 abbrev pub closing_text : Bool → List ℕ
 closing_text wrap = if wrap then codes ")" else []
 
--- the text, in parentheses where they are needed
+-- the text, in parentheses if needed
 abbrev pub in_parentheses : Bool → List ℕ → List ℕ
 in_parentheses wrap text = opening_text wrap ++ (text ++ closing_text wrap)
 
@@ -108,7 +108,7 @@ leaf_text m within (Constant c) = in_parentheses (wraps_constant within) (consta
 abbrev pub name_text : ℕ → List ℕ
 name_text k = codes "%" ++ decimal k
 
--- Plus and minus bind alike and times closer, all three to the left; the minus of a negative binds closest.
+-- Plus and minus have the same precedence, times binds closer, and all three associate to the left; unary minus binds closest.
 abbrev pub infix_text : {F : Type 0} {p : ℕ} → Modular F p → Binding → Shown (BaseLeaf F) → List ℕ
 infix_text m within nothing = []
 infix_text m within (leaf a) = leaf_text m within a

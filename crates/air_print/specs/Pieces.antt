@@ -1,4 +1,4 @@
--- What is still to be written, piece after piece.
+-- The pieces of text that remain to be written.
 use Rattle.std.specs.Prelude.{ℕ, ◌+◌, ◌<◌, Bool, if◌then◌else◌, List, [], ◌∷◌, ◌++◌, codes, ⊤}
 use Rattle.air_field.specs.Modular.{Modular}
 use Rattle.air_symbolic.specs.declared.leaves.base_leaf.BaseLeaf.{BaseLeaf}
@@ -10,7 +10,7 @@ use Rattle.air_print.specs.declared.pieces.Piece.{Piece}
 use Rattle.air_print.specs.declared.pieces.Piece.TheVariants.{Operand, Plus, Minus, Times, Close}
 use Rattle.air_print.specs.Infix.{Shown, nothing, leaf, name, sum, difference, negative, product, infix_text, leaf_text, opening_text, wraps_sum, wraps_product}
 
--- the text of a piece, number i being shown as f i
+-- the text of a piece, with expression i shown as f i
 abbrev pub piece_text : {F : Type 0} {p : ℕ} → Modular F p → (ℕ → Shown (BaseLeaf F)) → Piece F → List ℕ
 piece_text m f (Operand i within) = infix_text m within (f i)
 piece_text m f Plus = codes " + "
@@ -18,16 +18,16 @@ piece_text m f Minus = codes " - "
 piece_text m f Times = codes " * "
 piece_text m f Close = codes ")"
 
--- the text of pieces, the last of which is next
+-- the text of a stack of pieces; the last piece comes first
 abbrev pub rest_text : {F : Type 0} {p : ℕ} → Modular F p → (ℕ → Shown (BaseLeaf F)) → List (Piece F) → List ℕ
 rest_text m f [] = []
 rest_text m f (piece ∷ rest) = rest_text m f rest ++ piece_text m f piece
 
--- an operator between two operands, in reverse
+-- two operands with an operator between them, in reverse
 abbrev pub pair_pieces : {F : Type 0} → Bool → Piece F → Piece F → Piece F → List (Piece F)
 pair_pieces wrap left operator right = (if wrap then Close ∷ [] else []) ++ right ∷ operator ∷ left ∷ []
 
--- how the text of a node begins
+-- the text with which a node begins
 abbrev pub node_front : {F : Type 0} {p : ℕ} → Modular F p → Binding → SymbolicExpr (BaseLeaf F) → List ℕ
 node_front m within (Leaf a) = leaf_text m within a
 node_front m within (Add x y d) = opening_text (wraps_sum within)
@@ -35,7 +35,7 @@ node_front m within (Sub x y d) = opening_text (wraps_sum within)
 node_front m within (Neg x d) = codes "-"
 node_front m within (Mul x y d) = opening_text (wraps_product within)
 
--- and the pieces that follow, in reverse
+-- the pieces after that, in reverse
 abbrev pub node_rest : {F : Type 0} → Binding → SymbolicExpr (BaseLeaf F) → List (Piece F)
 node_rest within (Leaf a) = []
 node_rest within (Add x y d) = pair_pieces (wraps_sum within) (Operand x Loose) Plus (Operand y Summand)
@@ -43,7 +43,7 @@ node_rest within (Sub x y d) = pair_pieces (wraps_sum within) (Operand x Loose) 
 node_rest within (Neg x d) = Operand x Negated ∷ []
 node_rest within (Mul x y d) = pair_pieces (wraps_product within) (Operand x Summand) Times (Operand y Factor)
 
--- a number is below n
+-- an operand piece refers to an expression below n
 abbrev pub IsPieceBelow : {F : Type 0} → ℕ → Piece F → Type 0
 IsPieceBelow n (Operand i within) = i < n
 IsPieceBelow n Plus = ⊤
@@ -51,7 +51,7 @@ IsPieceBelow n Minus = ⊤
 IsPieceBelow n Times = ⊤
 IsPieceBelow n Close = ⊤
 
--- more than the pieces that an expression gives
+-- a bound on the number of pieces that an expression yields
 abbrev pub shown_size : {A : Type 0} → Shown A → ℕ
 shown_size nothing = 1
 shown_size (leaf a) = 1

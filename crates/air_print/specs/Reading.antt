@@ -1,4 +1,4 @@
--- The columns, periodic columns and public values that an expression names.
+-- The columns, periodic columns and public values that an expression reads.
 use Rattle.std.specs.Prelude.{slice_get, ◌≡◌, ℕ, Bool, true, false, ◌&&◌, List, [], ◌∷◌, length, Option, None, Some}
 use Rattle.air_symbolic.specs.BaseLeaves.{base_leaves}
 use Rattle.air_symbolic.specs.Reach.{Reached}
@@ -27,16 +27,15 @@ abbrev pub has_variable : {F : Type 0} → Option (SymbolicExpr (BaseLeaf F)) �
 has_variable None = false
 has_variable (Some n) = is_variable n
 
--- number i is marked and such a leaf
+-- expression i is marked, and is such a leaf
 abbrev pub is_read : {F : Type 0} → List (SymbolicExpr (BaseLeaf F)) → List (Option ℕ) → ℕ → Bool
 is_read ns marks i = is_reached marks i && has_variable (slice_get ns i)
 
--- those below n, in order
+-- such expressions below n, in order
 abbrev pub read_below : {F : Type 0} → List (SymbolicExpr (BaseLeaf F)) → List (Option ℕ) → ℕ → List ℕ
 read_below ns marks n = passing_below (is_read ns marks) n
 
--- The numbers of the columns, periodic columns and public values that the tree of a number has: each once, in the order of
--- the pool.
+-- The columns, periodic columns and public values that occur in the tree of `root`: each once, in the order of the pool.
 pub record Reads {F : Type 0} (ns : List (SymbolicExpr (BaseLeaf F))) (root : ℕ) (numbers : List ℕ) : Type 0 where
   pub marks : List (Option ℕ)
   pub reached : Reached base_leaves ns (root ∷ []) marks

@@ -1,11 +1,11 @@
--- What the leaves read at a row.
+-- The values that the leaves read at a row.
 use Rattle.std.specs.Prelude.{ℕ, ◌%◌, List, [], length, map, Option, None, Some, Vec, slice_index_or}
 use Rattle.std.specs.Global.{Global}
 use Rattle.air_field.specs.Assignment.{Trace}
 use Rattle.air_field.specs.Grid.{Grid}
 use Rattle.air_print.specs.declared.rows.TraceRows.{TraceRows}
 
--- the table; where there is none, it has no columns and no rows
+-- the preprocessed trace; without one, a trace with no columns and no rows
 abbrev pub table_rows : {F : Type 0} → Option (Grid F) → Grid F
 table_rows None = record { width = 0; rows = [] }
 table_rows (Some table) = table
@@ -13,7 +13,7 @@ table_rows (Some table) = table
 abbrev pub columns_of : {F : Type 0} → List (Vec F Global) → List (List F)
 columns_of columns = map (λ column. column.items) columns
 
--- a periodic column at a row, z where there is no such column
+-- a periodic column at a row, or z if there is no such column
 abbrev pub periodic_at : {F : Type 0} → F → List (Vec F Global) → ℕ → ℕ → F
 periodic_at z columns row c =
     slice_index_or (map (λ column. slice_index_or column (row % length column) z) (columns_of columns)) c z

@@ -1,2 +1,2 @@
--- Laws of what specs/ defines, which the layers above cite.
+-- Laws of the definitions in specs/, for the layers above.
 pub mod Values

@@ -1,22 +1,22 @@
-//! Where an expression stands in a text, which says whether it needs parentheses.
+//! The position of an expression in a text, which determines whether it needs parentheses.
 ghost use Rattle.std.specs.Prelude.{◌≡◌};
 ghost use Rattle.air_print.specs.Infix.{wraps_sum, wraps_product, wraps_constant};
 
-/// Where an expression stands, from the loosest place to the closest.
+/// The position of an expression, from the loosest to the tightest binding.
 #[derive(Clone, Copy, Debug, PartialEq, Eq)]
 pub enum Binding {
-    /// By itself, or in front of a plus or a minus.
+    /// On its own, or before a plus or a minus.
     Loose,
-    /// Behind a plus or a minus, or in front of a times.
+    /// After a plus or a minus, or before a times.
     Summand,
-    /// Behind a times.
+    /// After a times.
     Factor,
-    /// Behind the minus of a negative.
+    /// After a unary minus.
     Negated,
 }
 
 impl Binding {
-    /// Whether a sum or a difference stands there in parentheses.
+    /// Whether a sum or a difference needs parentheses there.
     pub fn wraps_sum(self) -> bool
         ensures { result ≡ wraps_sum self }
     {
@@ -26,7 +26,7 @@ impl Binding {
         }
     }
 
-    /// Whether a product stands there in parentheses.
+    /// Whether a product needs parentheses there.
     pub fn wraps_product(self) -> bool
         ensures { result ≡ wraps_product self }
     {
@@ -37,7 +37,7 @@ impl Binding {
         }
     }
 
-    /// Whether a constant stands there in parentheses.
+    /// Whether a constant needs parentheses there.
     pub fn wraps_constant(self) -> bool
         ensures { result ≡ wraps_constant self }
     {

@@ -1,4 +1,4 @@
-//! The line that explains a boundary cell.
+//! The line that explains a boundary value.
 ghost use Rattle.std.specs.Prelude.{◌≡◌, ◌++◌, ◌∷◌, [], OnOk, string_bytes};
 ghost use Rattle.air_field.specs.Assignment.{row_assignment};
 ghost use Rattle.air_print.specs.Lines.{lines_text};
@@ -11,7 +11,7 @@ use air_core::BaseEntry;
 use air_field::PrimeField64;
 use std::alloc::AllocError;
 
-// Adds a variable and a value.
+// Appends a variable and its value.
 fn push_value<F: PrimeField64>(
     text: &mut String,
     entry: BaseEntry,
@@ -26,8 +26,7 @@ fn push_value<F: PrimeField64>(
     push_constant(text, value)
 }
 
-/// Adds the line of a cell's column and of a public value, with what they are at a row. It is refused for want of memory
-/// alone.
+/// Appends the line of a boundary value: its column and its public value, with their values at the row.
 pub fn push_cell<F: PrimeField64>(
     text: &mut String,
     trace: &TraceRows<'_, F>,

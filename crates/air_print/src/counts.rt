@@ -1,4 +1,4 @@
-//! How many places name each number, as far as it matters.
+//! How often each expression is used: never, once or more.
 ghost use Rattle.std.specs.Prelude.{◌≡◌, ℕ, ◌+◌, ◌<◌, ◌==◌, length, All, IfOk};
 ghost use Rattle.std.specs.List.{count_by};
 ghost use Rattle.air_symbolic.specs.Nodes.{OperandsBelow};
@@ -9,7 +9,7 @@ ghost use Rattle.air_print.specs.Counts.{places_for, AreCounted, AreMarks};
 use air_symbolic::{ExprId, ExprPool, SymLeaf, SymbolicExpr};
 use std::alloc::{AllocError, Global};
 
-/// How many places name an expression.
+/// How often an expression is used.
 #[derive(Clone, Copy, Debug, PartialEq, Eq)]
 pub enum Places {
     Nowhere,
@@ -17,7 +17,7 @@ pub enum Places {
     More,
 }
 
-// One place more.
+// One more use.
 fn one_more(places: Places) -> Places
     ensures { (n : ℕ) → places ≡ places_for n → result ≡ places_for (n + 1) }
 {
@@ -27,7 +27,7 @@ fn one_more(places: Places) -> Places
     }
 }
 
-// Counts a place that names `x`.
+// Counts a use of `x`.
 fn count_place<A: SymLeaf>(counts: &mut [Places], x: ExprId<A>)
     requires { x < length counts.old }
     ensures { (f : ℕ → ℕ) → AreCounted f counts.old
@@ -61,7 +61,7 @@ fn count_operands<A: SymLeaf>(counts: &mut [Places], node: SymbolicExpr<A>)
     }
 }
 
-// Counts the places of the roots.
+// Counts the uses by the roots.
 fn count_roots<A: SymLeaf>(counts: &mut [Places], roots: &[ExprId<A>])
     requires { All (λ x. x < length counts.old) roots.now }
     ensures { (f : ℕ → ℕ) → AreCounted f counts.old →
@@ -72,7 +72,7 @@ fn count_roots<A: SymLeaf>(counts: &mut [Places], roots: &[ExprId<A>])
     }
 }
 
-// Counts the operands of the node at a number, if it is reached.
+// Counts the operands of a node, if it is reached.
 fn count_node<A: SymLeaf>(
     counts: &mut [Places],
     pool: &ExprPool<A>,
@@ -91,7 +91,7 @@ fn count_node<A: SymLeaf>(
     }
 }
 
-// Counts the operands of the nodes that are reached.
+// Counts the operands of all reached nodes.
 fn count_reached<A: SymLeaf>(counts: &mut [Places], pool: &ExprPool<A>, marks: &[Option<ExprId<A>>])
     requires owed { FitsBase A.reads pool.now }
     requires places { length counts.old ≡ size pool.now }
@@ -105,7 +105,7 @@ fn count_reached<A: SymLeaf>(counts: &mut [Places], pool: &ExprPool<A>, marks: &
     }
 }
 
-// Counts all places, where none was counted.
+// Counts all uses, starting from zero counts.
 fn count_all<A: SymLeaf>(
     counts: &mut [Places],
     pool: &ExprPool<A>,
@@ -123,7 +123,7 @@ fn count_all<A: SymLeaf>(
     count_reached(counts, pool, marks);
 }
 
-/// Counts the places that name each number: operands of nodes that the roots reach, and roots.
+/// Counts the uses of each expression, as an operand of a reached node or as a root.
 pub fn count_places<A: SymLeaf>(
     alloc: Global,
     pool: &ExprPool<A>,

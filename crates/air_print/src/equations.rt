@@ -12,7 +12,7 @@ use air_field::PrimeField64;
 use air_symbolic::{BaseLeaf, ExprId, ExprPool};
 use std::alloc::{AllocError, Global};
 
-/// Adds the text of an expression and its value.
+/// Appends the text of an expression and its value.
 pub(crate) fn push_equation<F: PrimeField64>(
     alloc: Global,
     text: &mut String,
@@ -31,7 +31,7 @@ pub(crate) fn push_equation<F: PrimeField64>(
     push_constant(text, value(values, id.number()))
 }
 
-// Adds what stands before an equation of a line.
+// Appends the text before an equation of a line: indentation before the first, otherwise a comma.
 fn push_separator(text: &mut String, is_first: bool) -> Result<(), AllocError>
     ensures { OnOk result (string_bytes text.new ≡ string_bytes text.old
         ++ (if is_first then codes "  " else codes ", ")) }
@@ -43,7 +43,7 @@ fn push_separator(text: &mut String, is_first: bool) -> Result<(), AllocError>
     }
 }
 
-/// Adds a line of the equations, if there are some.
+/// Appends the equations as one line; no line if there are none.
 pub(crate) fn push_equations<F: PrimeField64>(
     alloc: Global,
     text: &mut String,

@@ -1,4 +1,4 @@
-//! The lines that explain an expression, and those of the names that stand in them.
+//! The lines that explain an expression, and the lines of the names in them.
 ghost use Rattle.std.specs.Prelude.{◌≡◌, ◌<◌, ◌++◌, [], length, slice_index_or, All, OnOk, codes, string_bytes, if◌then◌else◌};
 ghost use Rattle.air_symbolic.specs.Pools.{size};
 ghost use Rattle.air_print.specs.Lines.{lines_text, definition_line};
@@ -12,7 +12,7 @@ use air_field::PrimeField64;
 use air_symbolic::{BaseLeaf, ExprId, ExprPool};
 use std::alloc::{AllocError, Global};
 
-// Whether a number is marked.
+// Whether an expression is marked.
 fn is_marked<F: PrimeField64>(
     marks: &[Option<ExprId<BaseLeaf<F>>>],
     id: ExprId<BaseLeaf<F>>,
@@ -25,7 +25,7 @@ fn is_marked<F: PrimeField64>(
     }
 }
 
-// Adds the line of a name, if what it stands for is marked.
+// Appends the line of a name, if its expression is marked.
 fn push_name<F: PrimeField64>(
     alloc: Global,
     text: &mut String,
@@ -48,7 +48,7 @@ fn push_name<F: PrimeField64>(
     Ok(())
 }
 
-/// Adds a line for each name that stands for a marked expression, which says what it is.
+/// Appends the definition of each named expression that is marked.
 pub fn push_reached_definitions<F: PrimeField64>(
     alloc: Global,
     text: &mut String,
@@ -66,8 +66,8 @@ pub fn push_reached_definitions<F: PrimeField64>(
     Ok(())
 }
 
-/// Adds the line of an expression and its value, and a line of those that it reads and theirs, if there are some: `values`
-/// has the value of each number at its place. It is refused for want of memory alone.
+/// Appends a line for the expression and its value, and a line for the expressions that it reads and their values, if
+/// there are any. `values` is indexed by id.
 pub fn push_explained<F: PrimeField64>(
     alloc: Global,
     text: &mut String,

@@ -11,7 +11,7 @@ use air_field::PrimeField64;
 use air_symbolic::{BaseLeaf, ExprId, ExprPool};
 use std::alloc::{AllocError, Global};
 
-// Adds a piece, or how it begins, and leaves the pieces that follow.
+// Appends a piece, or its beginning, and pushes the pieces that remain of it.
 fn write_piece<F: PrimeField64>(
     text: &mut String,
     rest: &mut Vec<Piece<F>>,
@@ -41,7 +41,7 @@ fn write_piece<F: PrimeField64>(
     }
 }
 
-// Adds what is left, the last piece first.
+// Appends all remaining pieces, the last one first.
 fn write_rest<F: PrimeField64>(
     text: &mut String,
     mut rest: Vec<Piece<F>>,
@@ -59,7 +59,7 @@ fn write_rest<F: PrimeField64>(
     Ok(())
 }
 
-/// Adds the text of an expression: its name, if it has one, or else its node, with the names of what has one.
+/// Appends the text of an expression: its name, if it has one; otherwise its node. Named parts appear by name.
 pub fn push_infix<F: PrimeField64>(
     alloc: Global,
     text: &mut String,
@@ -77,7 +77,7 @@ pub fn push_infix<F: PrimeField64>(
     write_rest(text, rest, pool, names)
 }
 
-/// Adds the text of an expression's node, with the names of what has one, whether or not it has a name itself.
+/// Appends the text of an expression's node, even if the expression has a name. Named parts appear by name.
 pub fn push_definition<F: PrimeField64>(
     alloc: Global,
     text: &mut String,

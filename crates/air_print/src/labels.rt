@@ -5,7 +5,7 @@ ghost use Rattle.air_print.specs.Labels.{ShowsLabel, StandsBehind, text_at};
 
 use std::alloc::{AllocError, Global};
 
-/// A space and the label's debug text. A text that would break the line isn't shown, so that no label can feign a further
+/// A space and the label's debug text, or nothing if that text contains a line end: so no label can imitate a further
 /// line.
 pub fn shown_label(alloc: Global, label: &str) -> Result<String, AllocError>
     ensures { IfOk result (λ shown. ShowsLabel label.now (string_bytes shown)) }
@@ -17,7 +17,7 @@ pub fn shown_label(alloc: Global, label: &str) -> Result<String, AllocError>
     Ok(shown)
 }
 
-// What stands behind the place of an expression with this label: nothing, if it is empty.
+// The text after the index of an expression with this label: nothing if the label is empty.
 fn text_behind(alloc: Global, label: &str) -> Result<String, AllocError>
     ensures { IfOk result (λ shown. StandsBehind label.now (string_bytes shown)) }
 {
@@ -27,7 +27,7 @@ fn text_behind(alloc: Global, label: &str) -> Result<String, AllocError>
     shown_label(alloc, label)
 }
 
-/// What stands behind the place of each label.
+/// The text after the index, for each label.
 pub(crate) fn shown_labels(alloc: Global, labels: &[String]) -> Result<Vec<String>, AllocError>
     ensures { IfOk result (λ shown. AllZip StandsBehind (map string_bytes labels.now)
         (map string_bytes shown.items)) }
@@ -39,7 +39,7 @@ pub(crate) fn shown_labels(alloc: Global, labels: &[String]) -> Result<Vec<Strin
     Ok(shown)
 }
 
-/// The text at a place; none is there past the end.
+/// The text at an index, empty past the end.
 pub(crate) fn text_at(texts: &[String], place: usize) -> &str
     ensures { result.now ≡ text_at (map string_bytes texts.now) place }
 {

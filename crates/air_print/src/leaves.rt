@@ -8,7 +8,7 @@ use air_field::PrimeField64;
 use air_symbolic::BaseLeaf;
 use std::alloc::AllocError;
 
-// Adds the name of a table in the row that is `offset` rows further on.
+// Appends the name of a trace at the row `offset` rows further on.
 fn push_rows(text: &mut String, here: &str, next: &str, offset: usize) -> Result<(), AllocError>
     ensures { OnOk result (string_bytes text.new ≡
         string_bytes text.old ++ rows_text here.now next.now offset) }
@@ -20,7 +20,7 @@ fn push_rows(text: &mut String, here: &str, next: &str, offset: usize) -> Result
     }
 }
 
-// Adds the name of an entry.
+// Appends the name of an entry.
 fn push_entry(text: &mut String, entry: BaseEntry) -> Result<(), AllocError>
     ensures { OnOk result (string_bytes text.new ≡ string_bytes text.old ++ entry_text entry) }
 {
@@ -34,7 +34,7 @@ fn push_entry(text: &mut String, entry: BaseEntry) -> Result<(), AllocError>
     }
 }
 
-/// Adds a constant by its canonical number, with a minus where the number below zero is nearer.
+/// Appends a constant as its canonical number n, or as -(p - n) if n > p/2.
 pub fn push_constant<F: PrimeField64>(text: &mut String, c: F) -> Result<(), AllocError>
     ensures { OnOk result (string_bytes text.new ≡
         string_bytes text.old ++ constant_text F.residues c) }
@@ -48,7 +48,7 @@ pub fn push_constant<F: PrimeField64>(text: &mut String, c: F) -> Result<(), All
     }
 }
 
-/// Adds a parenthesis that opens, where `wrap` asks for one.
+/// Appends an opening parenthesis if `wrap` is set.
 pub fn push_opening(text: &mut String, wrap: bool) -> Result<(), AllocError>
     ensures { OnOk result (string_bytes text.new ≡ string_bytes text.old ++ opening_text wrap) }
 {
@@ -58,7 +58,7 @@ pub fn push_opening(text: &mut String, wrap: bool) -> Result<(), AllocError>
     Ok(())
 }
 
-// Adds a parenthesis that closes, where `wrap` asks for one.
+// Appends a closing parenthesis if `wrap` is set.
 fn push_closing(text: &mut String, wrap: bool) -> Result<(), AllocError>
     ensures { OnOk result (string_bytes text.new ≡ string_bytes text.old ++ closing_text wrap) }
 {
@@ -68,7 +68,7 @@ fn push_closing(text: &mut String, wrap: bool) -> Result<(), AllocError>
     Ok(())
 }
 
-/// Adds a column, a public value or a periodic column.
+/// Appends a column, a public value or a periodic column.
 pub fn push_variable(text: &mut String, entry: BaseEntry, index: usize) -> Result<(), AllocError>
     ensures { OnOk result (string_bytes text.new ≡ string_bytes text.old
         ++ (entry_text entry ++ (codes "[" ++ (decimal index ++ codes "]")))) }
@@ -77,7 +77,7 @@ pub fn push_variable(text: &mut String, entry: BaseEntry, index: usize) -> Resul
     write!(text, "[{index}]")
 }
 
-/// Adds a leaf.
+/// Appends a leaf.
 pub fn push_leaf<F: PrimeField64>(
     text: &mut String,
     leaf: &BaseLeaf<F>,

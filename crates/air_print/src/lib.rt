@@ -1,5 +1,7 @@
-//! Expressions as text: as people read them, in infix notation with a name for what several places share; and what they
-//! and the columns that they name are worth at a row of a trace.
+//! Expressions as text, in infix notation with a name for each shared part; and their values at a row of a trace, with
+//! the values of the columns that they read.
+//!
+//! Calls fail only with `AllocError`, when out of memory.
 #![tactic(auto)]
 
 mod binding;

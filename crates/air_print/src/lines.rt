@@ -10,7 +10,7 @@ use air_field::PrimeField64;
 use air_symbolic::{BaseLeaf, ExprId, ExprPool};
 use std::alloc::{AllocError, Global};
 
-/// Adds a line for each expression that has a name, which says what it is.
+/// Appends the definition of each named expression.
 pub fn push_definitions<F: PrimeField64>(
     alloc: Global,
     text: &mut String,
@@ -30,7 +30,7 @@ pub fn push_definitions<F: PrimeField64>(
     Ok(())
 }
 
-// Adds a line for each root, with its degree, and behind its place what is shown there.
+// Appends a line for each root, with its index, the shown label and its degree.
 fn push_constraints<F: PrimeField64>(
     alloc: Global,
     text: &mut String,
@@ -54,8 +54,8 @@ fn push_constraints<F: PrimeField64>(
     Ok(())
 }
 
-/// The lines that show the roots: first what each name stands for, and then each root with its label, if there is one at
-/// its place that isn't empty, and its degree. It is refused for want of memory alone.
+/// The lines that show the roots: first the definitions of the names, then each root with its degree and its label, if
+/// that isn't empty.
 pub fn show<F: PrimeField64>(
     alloc: Global,
     pool: &ExprPool<BaseLeaf<F>>,

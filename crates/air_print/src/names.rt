@@ -1,4 +1,4 @@
-//! Names for the nodes that several places name.
+//! Names for the expressions that are used at least twice.
 ghost use Rattle.std.specs.Prelude.{◌≡◌, slice_index_or, None};
 
 use air_symbolic::{ExprId, SymLeaf};

@@ -1,4 +1,4 @@
-//! Who gets a name.
+//! Which expressions get a name.
 ghost use Rattle.std.specs.Prelude.{◌≡◌, ℕ, ◌<◌, length, slice_index_or, [], ◌∷◌, ◌++◌, Some, None, option_map, All, IfOk, OnOk, if◌then◌else◌};
 ghost use Rattle.std.specs.Option.{option_to_list};
 ghost use Rattle.air_symbolic.specs.Pools.{FitsBase, size};
@@ -20,7 +20,7 @@ fn is_operation<A: SymLeaf>(node: SymbolicExpr<A>) -> bool
     }
 }
 
-// The number, if it gets a name.
+// The expression at this index, if it gets a name.
 fn named_at<A: SymLeaf>(
     pool: &ExprPool<A>,
     marks: &[Option<ExprId<A>>],
@@ -44,7 +44,7 @@ fn named_at<A: SymLeaf>(
     }
 }
 
-// Gives an expression the next name, if it is to have one.
+// Gives an expression the next name, if it gets one.
 fn give_name<A: SymLeaf>(
     named: &mut Vec<ExprId<A>>,
     names: &mut Vec<Option<usize>>,
@@ -64,7 +64,7 @@ fn give_name<A: SymLeaf>(
     Ok(())
 }
 
-// Names the numbers in order.
+// Names the expressions in order.
 fn give_names<A: SymLeaf>(
     alloc: Global,
     pool: &ExprPool<A>,
@@ -89,8 +89,8 @@ fn give_names<A: SymLeaf>(
 }
 
 impl<A: SymLeaf> Names<A> {
-    /// The names where these roots are shown: a node that they reach and that isn't a leaf has one, if two places or more
-    /// name it, among the operands of what they reach and the roots. It is refused for want of memory alone.
+    /// The names for showing these roots: every reachable non-leaf node used at least twice, as an operand or as a
+    /// root, gets one.
     pub fn of(alloc: Global, pool: &ExprPool<A>, roots: &[ExprId<A>]) -> Result<Self, AllocError>
         requires owed { FitsBase A.reads pool.now }
         requires here { All (λ x. x < size pool.now) roots.now }

@@ -1,4 +1,4 @@
-//! What is still to be written of an expression.
+//! The pieces of an expression's text that remain to be written.
 ghost use Rattle.std.specs.Prelude.{◌≡◌, ◌++◌, OnOk, string_bytes};
 ghost use Rattle.air_print.specs.Infix.{opening_text};
 ghost use Rattle.air_print.specs.Pieces.{pair_pieces, node_front, node_rest};
@@ -9,19 +9,19 @@ use air_field::PrimeField64;
 use air_symbolic::{BaseLeaf, ExprId, SymbolicExpr, SymbolicExpression};
 use std::alloc::AllocError;
 
-/// A piece of a text.
+/// A piece of text.
 #[derive(Clone, Copy)]
 pub enum Piece<F> {
-    /// An expression, which stands in such a place.
+    /// An expression, at a position.
     Operand(ExprId<BaseLeaf<F>>, Binding),
     Plus,
     Minus,
     Times,
-    /// A parenthesis that closes.
+    /// A closing parenthesis.
     Close,
 }
 
-// Two operands with an operator between them: adds the parenthesis that opens, if there is one, and leaves the rest.
+// Two operands with an operator between them: appends the opening parenthesis, if any, and pushes the rest.
 fn leave_pair<F: PrimeField64>(
     text: &mut String,
     rest: &mut Vec<Piece<F>>,
@@ -45,7 +45,7 @@ fn leave_pair<F: PrimeField64>(
     Ok(())
 }
 
-/// Adds how the text of a node begins, and leaves the pieces that follow.
+/// Appends the beginning of a node's text, and pushes the pieces that remain.
 pub fn leave_node<F: PrimeField64>(
     text: &mut String,
     rest: &mut Vec<Piece<F>>,

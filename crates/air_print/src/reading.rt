@@ -1,4 +1,4 @@
-//! Which columns and public values an expression names.
+//! Which columns and public values an expression reads.
 ghost use Rattle.std.specs.Prelude.{◌≡◌, ◌<◌, ◌++◌, ◌∷◌, [], length, IfOk, OnOk, if◌then◌else◌};
 ghost use Rattle.air_symbolic.specs.Pools.{size};
 ghost use Rattle.air_print.specs.Values.{AreClosed};
@@ -18,7 +18,7 @@ fn is_variable<F: Field>(node: SymbolicExpression<F>) -> bool
     }
 }
 
-// Adds a number, if it is marked and such a node.
+// Pushes an expression, if it is marked and such a leaf.
 fn push_read<F: Field>(
     numbers: &mut Vec<ExprId<BaseLeaf<F>>>,
     pool: &ExprPool<BaseLeaf<F>>,
@@ -38,7 +38,7 @@ fn push_read<F: Field>(
     Ok(())
 }
 
-// The marked numbers of such nodes, in order.
+// The marked expressions that are such leaves, in order.
 fn marked_reads<F: Field>(
     alloc: Global,
     pool: &ExprPool<BaseLeaf<F>>,
@@ -55,8 +55,8 @@ fn marked_reads<F: Field>(
     Ok(numbers)
 }
 
-/// The columns, periodic columns and public values that an expression's tree names, each once and in the order of the
-/// pool. It is refused for want of memory alone.
+/// The columns, periodic columns and public values that occur in an expression's tree, each once and in the order of
+/// the pool.
 pub fn reads<F: Field>(
     alloc: Global,
     pool: &ExprPool<BaseLeaf<F>>,

@@ -11,18 +11,18 @@ use air_core::BaseEntry;
 use air_field::{Field, RowMajorMatrix};
 use air_symbolic::BaseLeaf;
 
-/// A trace with what stands beside it. What isn't there is read as zero.
+/// The data that leaves read. Missing entries read as zero.
 #[derive(Drop)]
 pub struct TraceRows<'a, F: Field> {
     pub main: &'a RowMajorMatrix<F>,
-    /// The preprocessed table, if there is one.
+    /// The preprocessed trace, if there is one.
     pub preprocessed: &'a Option<RowMajorMatrix<F>>,
     /// The periodic columns, each the values of one period.
     pub periodic: &'a [Vec<F>],
     pub public_values: &'a [F],
 }
 
-/// The entry of a table at a row and a column.
+/// The entry of a trace at a row and a column.
 pub(crate) fn entry_of<F: Field>(table: &RowMajorMatrix<F>, row: usize, column: usize) -> F
     ensures { result ≡ slice_index_or (row_or_none (slice_get table.now.rows row)) column
         F.ring.zero }
@@ -33,7 +33,7 @@ pub(crate) fn entry_of<F: Field>(table: &RowMajorMatrix<F>, row: usize, column: 
     }
 }
 
-// The row after this one; after the last comes the first.
+// The next row; the first row follows the last.
 fn row_after(row: usize, height: usize) -> usize
     requires { row < height }
     ensures { result ≡ (row + 1) % height }
@@ -41,7 +41,7 @@ fn row_after(row: usize, height: usize) -> usize
     if row + 1 == height { 0 } else { row + 1 }
 }
 
-// The entry of a table in the row that is `offset` rows further on.
+// The entry of a trace in the row that is `offset` rows further on; zero if `offset` is past 1.
 fn column_of<F: Field>(
     table: &RowMajorMatrix<F>,
     row: usize,
@@ -60,7 +60,7 @@ fn column_of<F: Field>(
     }
 }
 
-// The same of a table that may not be there.
+// Like `column_of`, for a trace that may be missing.
 fn table_column_of<F: Field>(
     table: &Option<RowMajorMatrix<F>>,
     row: usize,
@@ -79,7 +79,7 @@ fn table_column_of<F: Field>(
     }
 }
 
-// The value of one period at a row.
+// The value of one periodic column at a row.
 fn period_of<F: Field>(column: &[F], row: usize) -> F
     ensures { result ≡ slice_index_or column.now (row % length column.now) F.ring.zero }
 {
@@ -101,7 +101,7 @@ fn periodic_of<F: Field>(columns: &[Vec<F>], row: usize, index: usize) -> F
     }
 }
 
-/// The public value of a number.
+/// The public value at an index.
 pub(crate) fn public_of<F: Field>(public_values: &[F], index: usize) -> F
     ensures { result ≡ slice_index_or public_values.now index F.ring.zero }
 {
@@ -111,14 +111,14 @@ pub(crate) fn public_of<F: Field>(public_values: &[F], index: usize) -> F
     }
 }
 
-// One where it holds, else zero.
+// One if `on`, otherwise zero.
 fn selector<F: Field>(on: bool) -> F
     ensures { result ≡ selector F.ring on }
 {
     if on { F::ONE } else { F::ZERO }
 }
 
-// Zero where it holds, else one.
+// Zero if `on`, otherwise one.
 fn other_selector<F: Field>(on: bool) -> F
     ensures { result ≡ if on then F.ring.zero else F.ring.one }
 {

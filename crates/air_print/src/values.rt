@@ -12,7 +12,7 @@ use air_field::Field;
 use air_symbolic::{BaseLeaf, ExprId, ExprPool, SymbolicExpr, SymbolicExpression};
 use std::alloc::{AllocError, Global};
 
-/// The value of a number that is known.
+/// The known value of an expression.
 pub(crate) fn value<F: Field>(values: &[F], number: usize) -> F
     requires { number < length values.now }
     ensures { result ≡ slice_index_or values.now number F.ring.zero }
@@ -20,7 +20,7 @@ pub(crate) fn value<F: Field>(values: &[F], number: usize) -> F
     values[number]
 }
 
-// The value of a node at a row, from those of its operands.
+// The value of a node at a row, from the values of its operands.
 fn node_value<F: Field>(
     values: &[F],
     node: SymbolicExpression<F>,
@@ -41,7 +41,7 @@ fn node_value<F: Field>(
     }
 }
 
-// The value of a number at a row, if it is marked.
+// The value of an expression at a row, if it is marked.
 fn marked_value<F: Field>(
     pool: &ExprPool<BaseLeaf<F>>,
     marks: &[Option<ExprId<BaseLeaf<F>>>],
@@ -65,8 +65,7 @@ fn marked_value<F: Field>(
     }
 }
 
-/// The values of the marked numbers at a row, each at its place; at other places stands anything. It is refused for want
-/// of memory alone.
+/// The values of the marked expressions at a row, indexed by id; the values of unmarked ids are unspecified.
 pub fn values_at<F: Field>(
     alloc: Global,
     pool: &ExprPool<BaseLeaf<F>>,

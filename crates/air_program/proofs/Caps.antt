@@ -1,4 +1,4 @@
--- Caps in decimal digits, and weights, which are such digits behind `w=`.
+-- Caps in decimal digits, and weights: such digits after `w=`.
 use Rattle.std.proofs.Common.{◌≡◌, ◌≢◌, ℕ, ◌<◌, ◌^◌, Bool, true, false, ◌&&◌, if◌then◌else◌, ◌++◌, List, length, drop, get_or, codes, Some, None, Result, Ok, Err, refl, ap, subst, ◌∙◌}
 use Rattle.std.specs.Str.{all_ascii_digits}
 use Rattle.std.specs.Str.Parse.{digits_value, ParsesUnsigned}
@@ -30,7 +30,7 @@ none_where_not_all false digits fits n wrong = refl
 no_cap : (word : List ℕ) → (IsCap word → ⊥) → None ≡ cap_of word
 no_cap word wrong = none_where_not_all _ _ _ (digits_value 10 word) (λ some digits fits. wrong (digits, ltb-true _ _ some, ltb-true _ _ fits))
 
--- A word without a plus before it is parsed exactly if it is a cap, and then to the cap.
+-- A word that doesn't begin with a plus is parsed exactly if it is a cap, and as its value.
 module _ {E : Type 0} (word : List ℕ) (r : Result ℕ E) (parsed : ParsesUnsigned 64 10 word r) (plain : get_or word 0 0 ≢ 43) where
   pub cap_parsed : (n : ℕ) → r ≡ Ok n → Some n ≡ cap_of word
   cap_parsed n is =
@@ -40,7 +40,7 @@ module _ {E : Type 0} (word : List ℕ) (r : Result ℕ E) (parsed : ParsesUnsig
   pub no_cap_parsed : (e : E) → r ≡ Err e → None ≡ cap_of word
   no_cap_parsed e is = no_cap word (OkIff-at_err r _ _ e (parse_plain model 64 word r parsed plain) is)
 
--- What is left of a word without `w=` at its front is read as a cap is.
+-- After `w=`, the rest of the word is read like a cap.
 module _ (word : List ℕ) where
   abbrev starts : Bool
   starts = starts_with (λ a b. a == b) word (codes "w=")

@@ -5,11 +5,11 @@ use Rattle.std.specs.Str.{all_ascii_digits}
 use Rattle.std.specs.Str.Parse.{digits_value_after}
 use Rattle.air_program.specs.Grammar.{if_element}
 
--- the number that the digits write behind those of n
+-- the number with the digits of n followed by these digits
 abbrev pub number_on : ℕ → List ℕ → Option ℕ
 number_on n digits = cond (all_ascii_digits digits) (if_element (digits_value_after 10 n digits)) None
 
--- more digits make no number less
+-- further digits never make a number smaller
 grows : (digits : List ℕ) (n : ℕ) → n ≤ digits_value_after 10 n digits
 grows [] n = omega arith
 grows (c ∷ cs) n = omega (arith, grows cs (n * 10 + digit_value c))

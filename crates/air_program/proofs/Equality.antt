@@ -1,4 +1,4 @@
--- A field's own test of equality and its own ring are those of its residues.
+-- A field's own equality test and ring are those of its residues.
 use Rattle.std.proofs.Common.{◌≡◌, ℕ, Bool, Option, subst}
 use Rattle.std.specs.Bool.{Decides}
 use Rattle.std.proofs.lemmas.Bool.Decides.{same_from_decides}
@@ -12,7 +12,7 @@ use Rattle.air_audit.specs.declared.audit.Audit.{Audit}
 use Rattle.air_core.specs.declared.errors.AirError.{AirError}
 use Rattle.air_program.specs.Answer.{equal_numbers, CappedAuditRefuses}
 
--- tests that agree on all elements are the same
+-- two tests with the same answers are equal
 same_test : {F : Type 0} (f g : F → F → Bool) → ((a b : F) → f a b ≡ g a b) → f ≡ g
 same_test f g h = λ i a b. h a b i
 
@@ -20,7 +20,7 @@ module _ {F : Type 0} {order : ℕ} (modular : Modular F order) (r : CommRing F)
   eq_same : eq ≡ equal_numbers modular
   eq_same = same_test eq (equal_numbers modular) (λ a b. same_from_decides (eq a b) (equal_numbers modular a b) (eq_is a b) (equal_is modular a b))
 
-  -- so the audit by these is an audit by the residues, and refuses the same
+  -- so an audit with the field's test and ring is an audit with the residues', with the same refusals
   pub audit_of_residues : (basis : Basis F F) (x : Instance F) (cap : Option ℕ) (w : ℕ) (audit : Audit F) → IsAuditUnder r eq basis x cap w audit → IsAuditUnder (modular_ring modular) (equal_numbers modular) basis x cap w audit
   audit_of_residues basis x cap w audit h =
       subst (λ e. IsAuditUnder (modular_ring modular) e basis x cap w audit) eq_same

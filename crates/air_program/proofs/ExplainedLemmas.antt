@@ -1,4 +1,4 @@
--- Failures with what stands below them, one after another.
+-- Failures with their explanations, one after another.
 use Rattle.std.specs.List.{AllZip, flat_map}
 use Rattle.std.specs.Option.{option_to_list}
 use Rattle.std.proofs.Common.{◌≡◌, ℕ, ◌+◌, ◌-◌, ◌<◌, ◌≤◌, List, [], ◌∷◌, ◌++◌, append_assoc, append-nil, length, map, take, get_or, All, Option, Some, None, Bor, codes, refl, sym, ap, subst, ◌∙◌, arith, inl, inr}
@@ -37,7 +37,7 @@ AllZip-append R [] (z ∷ ys) vs ws h k = absurd h
 AllZip-append R (z ∷ xs) [] vs ws h k = absurd h
 AllZip-append R (z ∷ xs) (w ∷ ys) vs ws h k = (h.0, AllZip-append R xs ys vs ws h.1 k)
 
--- the lists up to one more
+-- the lists up to one more element
 pub seen-more : (failures : List ConstraintFailure) (i : ℕ) (f : ConstraintFailure) → i < length failures → f ≡ get_or failures i f → map seen_failure (take (i + 1) failures) ≡ map seen_failure (take i failures) ++ seen_failure f ∷ []
 seen-more failures i f lt is =
     ap (map seen_failure) (take_more failures i f lt)
@@ -58,20 +58,20 @@ module _ {F : Type 0} {p : ℕ} (m : Modular F p) (pool : BaseNodes F) (roots : 
             ∙ ap (λ t. old ++ t) (sym (flat_map-append (λ line. line ++ codes "\n") here more) ∙ ap lines_text (sym (flat_map-append (λ b. b) h.blocks k.blocks)));
       }
 
-  -- one failure more
+  -- one more failure
   pub explained-more : (failures : List ConstraintFailure) (i : ℕ) (f : ConstraintFailure) (old mid new : List ℕ) → i < length failures → f ≡ get_or failures i f → PushesExplained m pool roots cells trace names (map seen_failure (take i failures)) old mid → PushesExplained m pool roots cells trace names (seen_failure f ∷ []) mid new → PushesExplained m pool roots cells trace names (map seen_failure (take (i + 1) failures)) old new
   explained-more failures i f old mid new lt is h k =
       subst (λ fs. PushesExplained m pool roots cells trace names fs old new) (sym (seen-more failures i f lt is))
       (explained-further (map seen_failure (take i failures)) (seen_failure f ∷ []) old mid new h k)
 
--- one failure's constraint more
+-- the constraint of one more failure
 pub failing-more : (roots : List ℕ) (failures : List ConstraintFailure) (i : ℕ) (f : ConstraintFailure) → i < length failures → f ≡ get_or failures i f → failing_roots roots (map seen_failure (take (i + 1) failures)) ≡ failing_roots roots (map seen_failure (take i failures)) ++ option_to_list (slice_get roots f.constraint)
 failing-more roots failures i f lt is =
     ap (failing_roots roots) (seen-more failures i f lt is)
     ∙ flat_map-append (λ (g : Failure). option_to_list (slice_get roots (place_of g).1)) (map seen_failure (take i failures)) (seen_failure f ∷ [])
     ∙ ap (λ t. failing_roots roots (map seen_failure (take i failures)) ++ t) (append-nil (option_to_list (slice_get roots f.constraint)))
 
--- where there is such a constraint, and where there is none
+-- with such a constraint, and without
 pub failing-one : (roots : List ℕ) (failures : List ConstraintFailure) (i : ℕ) (f : ConstraintFailure) (root : ℕ) → i < length failures → f ≡ get_or failures i f → slice_get roots f.constraint ≡ Some root → failing_roots roots (map seen_failure (take (i + 1) failures)) ≡ failing_roots roots (map seen_failure (take i failures)) ++ root ∷ []
 failing-one roots failures i f root lt is there =
     failing-more roots failures i f lt is ∙ ap (λ (o : Option ℕ). failing_roots roots (map seen_failure (take i failures)) ++ option_to_list o) there
@@ -82,7 +82,7 @@ failing-none roots failures i f lt is past =
     ∙ ap (λ (o : Option ℕ). failing_roots roots (map seen_failure (take i failures)) ++ option_to_list o) past
     ∙ append-nil (failing_roots roots (map seen_failure (take i failures)))
 
--- what `get` lends
+-- the item that `get` borrows
 pub item_there : {X : Type 0} (xs : List X) (i : ℕ) (b : Bor X) → IsItemAt xs i (Some b) → slice_get xs i ≡ Some b.now
 item_there xs i b h = slice_get_read xs (length xs) i b.now refl h.3.0 h.1
 
@@ -92,14 +92,14 @@ item_past xs i h = slice_get_past xs i h.3
 pub item_has : {X : Type 0} (P : X → Type 0) (xs : List X) (i : ℕ) (b : Bor X) → IsItemAt xs i (Some b) → All P xs → P b.now
 item_has P xs i b h all = subst P (sym h.1) (all i b.now h.3.0)
 
--- no cell, no line
+-- without a boundary value there is no line
 pub no_cell : {F : Type 0} {p : ℕ} (m : Modular F p) (s : Leaf → F) (cell : Option BoundaryPublic) (text : List ℕ) → cell ≡ None → text ≡ text ++ lines_text (cell_lines m s cell)
 no_cell m s cell text none = sym (ap (λ (o : Option BoundaryPublic). text ++ lines_text (cell_lines m s o)) none ∙ append-nil text)
 
 block-pieces : (old first rest : List ℕ) → (old ++ (first ++ [])) ++ rest ≡ old ++ (first ++ rest)
 block-pieces old first rest = simp (append_assoc, append-nil)
 
--- a failure's line, and what stands below it
+-- a failure's line, and the explanation below it
 pub one-explained : {F : Type 0} {p : ℕ} (m : Modular F p) (pool : BaseNodes F) (roots : List ℕ) (cells : List BoundaryPublic) (trace : Trace F) (names : List (Option ℕ)) (f : Failure) (line : List ℕ) (below : List (List ℕ)) (old mid new : List ℕ) → IsFailureLine f line → StandsBelow m pool roots cells trace names (place_of f) (slice_get roots (place_of f).1) below → mid ≡ old ++ lines_text (line ∷ []) → new ≡ mid ++ lines_text below → PushesExplained m pool roots cells trace names (f ∷ []) old new
 one-explained m pool roots cells trace names f line below old mid new is_line is_below one rest = record {
   blocks = (line ∷ below) ∷ [];
@@ -112,7 +112,7 @@ one-explained m pool roots cells trace names f line below old mid new is_line is
 -- ---- one failure
 
 module _ {F : Type 0} {p : ℕ} (m : Modular F p) (r : CommRing F) (ring_is : r ≡ modular_ring m) (pool : BaseNodes F) (roots : List ℕ) (cells : List BoundaryPublic) (trace : Trace F) (names : List (Option ℕ)) (f : Failure) where
-  -- its constraint, by values that are known
+  -- its constraint, from known values
   pub root_explained : (root : ℕ) (marks : List (Option ℕ)) (at : RowValues F) (read old mid new : List ℕ) → slice_get roots (place_of f).1 ≡ Some root → AreClosed pool.nodes marks → KnownAt r trace pool.nodes marks at → at.row ≡ (place_of f).0 → root < length pool.nodes → Marked marks root → Reads pool.nodes root read → PushesLine f old mid → new ≡ mid ++ lines_text (explained_lines m pool names (λ i. get_or at.values.items i r.zero) root read) → PushesExplained m pool roots cells trace names (f ∷ []) old new
   root_explained root marks at read old mid new is closed known row here marked reads line written =
       let lines : List (List ℕ) = explained_lines m pool names (λ i. get_or at.values.items i r.zero) root read in
@@ -124,13 +124,13 @@ module _ {F : Type 0} {p : ℕ} (m : Modular F p) (r : CommRing F) (ring_is : r 
       one-explained m pool roots cells trace names f line.line lines old mid new line.is_line
       (subst (λ (o : Option ℕ). StandsBelow m pool roots cells trace names (place_of f) o lines) (sym is) (λ lt. below)) line.pushed written
 
-  -- past the trace there is nothing to say
+  -- a row past the trace has no explanation
   pub past_explained : (root : ℕ) (old new : List ℕ) → slice_get roots (place_of f).1 ≡ Some root → length trace.main_trace.rows ≤ (place_of f).0 → PushesLine f old new → PushesExplained m pool roots cells trace names (f ∷ []) old new
   past_explained root old new is past line =
       one-explained m pool roots cells trace names f line.line [] old new new line.is_line
       (subst (λ (o : Option ℕ). StandsBelow m pool roots cells trace names (place_of f) o []) (sym is) (λ lt. absurd (omega (arith, lt, past)))) line.pushed (sym (append-nil new))
 
-  -- its cell
+  -- its boundary value
   pub cell_explained : (old mid new : List ℕ) → slice_get roots (place_of f).1 ≡ None → PushesLine f old mid → new ≡ mid ++ lines_text (cell_lines m (row_assignment r trace (place_of f).0) (slice_get cells ((place_of f).1 - length roots))) → PushesExplained m pool roots cells trace names (f ∷ []) old new
   cell_explained old mid new is line written =
       let at : CommRing F → List (List ℕ) = λ q. cell_lines m (row_assignment q trace (place_of f).0) (slice_get cells ((place_of f).1 - length roots)) in
@@ -139,7 +139,7 @@ module _ {F : Type 0} {p : ℕ} (m : Modular F p) (r : CommRing F) (ring_is : r 
 
 -- ---- names
 
--- what has a name is in the pool
+-- named expressions are in the pool
 pub names_here : {A F : Type 0} (l : Leaves A F) (ns : List (SymbolicExpr A)) (roots : List ℕ) (names : List ℕ × List (Option ℕ)) → AreNames l ns roots names → All (λ x. x < length ns) names.0
 names_here l ns roots names h = subst (λ xs. All (λ x. x < length ns) xs) (sym h.named) (passing_low (is_named ns roots h.marks) (length ns) (length ns) (omega arith))
 
@@ -149,7 +149,7 @@ optional_here P roots k h = elim (slice_get_cases roots k).1 [
   | inr past ↦ subst (λ (o : Option ℕ). All P (option_to_list o)) (sym past.1) (All-nil P)
 ]
 
--- what each root has, each failing one has
+-- a fact about all roots holds for the failing ones
 pub failing_here : (P : ℕ → Type 0) (roots : List ℕ) (failures : List Failure) → All P roots → All P (failing_roots roots failures)
 failing_here P roots [] h = All-nil P
 failing_here P roots (f ∷ fs) h =
@@ -157,7 +157,7 @@ failing_here P roots (f ∷ fs) h =
 
 -- ---- the whole text
 
--- counts, names, failures
+-- counts, then names, then failures
 pub text_explained : {F : Type 0} {p : ℕ} (m : Modular F p) (pool : BaseNodes F) (roots : List ℕ) (cells : List BoundaryPublic) (trace : Trace F) (names : List ℕ × List (Option ℕ)) (f : Found) (counts front text : List ℕ) → AreNames base_leaves pool.nodes roots names → counts ≡ lines_text (count_lines f) → PushesNames m pool roots names f.failures counts front → PushesExplained m pool roots cells trace names.1 f.failures front text → IsExplainedText m pool roots cells trace f text
 text_explained m pool roots cells trace names f counts front text are counted named rest =
     let defined : List (List ℕ) = reached_definitions m pool names named.marks in

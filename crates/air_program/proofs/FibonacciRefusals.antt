@@ -1,5 +1,4 @@
--- On a trace of two columns with three public values Fibonacci is refused for want of memory alone, or for a degree of a
--- domain whose weight is great.
+-- On a trace of two columns with three public values, Fibonacci fails only with `Memory`, or with `DegreeOverflow` in a domain of large weight.
 use Rattle.std.proofs.Common.{◌≡◌, ◌⊎◌, ℕ, zero, suc, ◌+◌, ◌<◌, ◌≤◌, ◌^◌, List, [], ◌∷◌, ◌++◌, length, refl, arith, Bool, Option, inl, inr}
 use Rattle.std.proofs.Math.Nat.{max-le, le-max_left, le-max_right}
 use Rattle.air_field.specs.Ring.{CommRing, AlgebraOver, self_algebra}
@@ -36,7 +35,7 @@ part_degree w (in_neg p) = part_degree w p
 part_degree w (in_mul_left {u = u} {v = v} p) = omega (arith, part_degree w p)
 part_degree w (in_mul_right {u = u} {v = v} p) = omega (arith, part_degree w p)
 
--- where no term has a degree past b, no part has
+-- if no term has a degree above b, no part of a term has
 AllBelow : {F : Type 0} → (Leaf → ℕ) → ℕ → List (Assertion F) → Type 0
 AllBelow w b [] = Unit {0}
 AllBelow w b (Base t ∷ ts) = (degree_by w t ≤ b) × AllBelow w b ts
@@ -55,7 +54,7 @@ TermsBelow : {F : Type 0} → (Leaf → ℕ) → ℕ → List (Term F) → Type 
 TermsBelow w b [] = Unit {0}
 TermsBelow w b (t ∷ ts) = (degree_by w t ≤ b) × TermsBelow w b ts
 
--- what records such terms has no greater degree
+-- recorded versions of such terms have no greater degree
 recorded_below : {F E : Type 0} (a : AlgebraOver F E) (w : Leaf → ℕ) (b : ℕ) (us ts : List (Term F)) → EachRecords a us ts → TermsBelow w b ts → greatest_degree w us ≤ b
 unfolding TermsBelow
 recorded_below a w b [] [] m h = omega arith
@@ -71,7 +70,7 @@ both_below a w b (u ∷ us) [] vs ss m n h k = absurd m
 both_below a w b (u ∷ us) (t ∷ ts) vs ss m n h k = max-le (omega (arith, m.0.degree_le w, h.0)) (both_below a w b us ts vs ss m.1 n h.1 k)
 
 module _ (F : Type 0) where
-  -- two columns and three public values have all entries that the constraints name
+  -- a trace with two columns and three public values has all entries that the constraints name
   none_missing_in : (s : Shape) → s.main_width ≡ 2 → s.public_values ≡ 3 → NoneMissing {F = F} (IsMissing s) fibonacci
   none_missing_in s w p =
       let column : (i : ℕ) → i < 2 → s.main_width ≤ i → ⊥ = λ i b h. absurd (omega arith) in
@@ -94,7 +93,7 @@ module _ (F : Type 0) where
   unfolding TermsBelow
   none_below n = tt
 
-  -- a check refuses memory alone
+  -- a check fails only with `Memory`
   check_refuses : (g : Grid F) (public : List F) (e : AirError) → g.width ≡ 2 → length public ≡ 3 → Refused {F = F} (IsMissing (trace_shape (plain_trace g public))) (λ _. ⊥) (IsFull 0) e fibonacci → e ≡ Memory
   check_refuses g public Memory w p h = refl
   check_refuses g public DegreeOverflow w p h = absurd h.1.0
@@ -105,7 +104,7 @@ module _ (F : Type 0) where
   check_refuses g public NoPermutation w p h = absurd (none_missing_in (trace_shape (plain_trace g public)) w p (permutation h.0 h.1) h.2 h.3)
   check_refuses g public _ w p h = absurd h
 
-  -- and so does the recording
+  -- so does the recording
   abbrev own_shape : Shape
   own_shape = shape_with (fibonacci_declaration {F = F}) 2 3
 
@@ -124,7 +123,7 @@ module _ (F : Type 0) where
   degree_fits r n us vs b m k past =
       absurd (omega (arith, b, past, both_below (self_algebra r) (trace_weight n []) (n + n + 1) us (base_terms fibonacci) vs (ext_terms fibonacci) m k (trace_below n) (none_below n)))
 
-  -- the only degree that may pass `usize` is one of a domain whose weight isn't 0
+  -- only in a domain whose weight isn't 0 may the degree pass `usize`
   some_weight : (r : CommRing F) (eq : F → F → Bool) (main : Grid F) (public : List F) (cap : Option ℕ) (w : ℕ) → length main.rows < 2 ^ 63
       → IsDegreePast r eq (instance fibonacci_declaration main public) cap w → 0 < w
   some_weight r eq main public cap zero b past =
@@ -132,7 +131,7 @@ module _ (F : Type 0) where
       absurd (degree_fits r (length main.rows) p.base p.ext b (each_base_back (RecordsTerm (self_algebra r)) p.base fibonacci p.recorded.each_base) (each_ext_back (RecordsTerm (self_algebra r)) p.ext fibonacci p.recorded.each_ext) p.past)
   some_weight r eq main public cap (suc w) b past = omega arith
 
-  -- and so an audit refuses memory alone, or such a degree
+  -- so an audit fails only with `Memory`, or with such a degree
   pub audit_refuses : (r : CommRing F) (eq : F → F → Bool) (main : Grid F) (public : List F) (cap : Option ℕ) (w : ℕ) (e : AirError) → main.width ≡ 2 → length public ≡ 3 → length main.rows < 2 ^ 63
       → AuditRefusesUnder r eq (instance fibonacci_declaration main public) cap w e
       → (e ≡ Memory) ⊎ ((e ≡ DegreeOverflow) × ((0 < w) × IsDegreePast r eq (instance fibonacci_declaration main public) cap w))

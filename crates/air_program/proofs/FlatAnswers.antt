@@ -1,4 +1,4 @@
--- What answers the input that a JSON value spells, step by step. Below, `tells` is what is said of it.
+-- The answer to the input that a JSON value spells, step by step. Below, `tells` relates an input to its answer.
 use Rattle.std.proofs.Common.{◌≡◌, ◌≢◌, ◌⊎◌, ℕ, List, refl, sym, ap, subst, inl, inr}
 use Rattle.serde_json.specs.Data.{Data}
 use Rattle.air_field.specs.Modular.{Modular}
@@ -11,7 +11,7 @@ use Rattle.air_program.specs.Refusals.{name_of, refusal_text, air_refusal}
 use Rattle.air_program.specs.declared.refusals.Refusal.{Refusal}
 use Rattle.air_program.specs.declared.refusals.Refusal.TheVariants as refusals
 
--- of all refusals of an AIR only want of memory is one of the program's own
+-- of all errors of an AIR, only `Memory` is also a refusal of the program itself
 memory_or_named : (e : AirError) → (e ≡ Memory) ⊎ ((e ≢ Memory) × (air_refusal e ≡ refusals.Air e))
 memory_or_named Memory = inl refl
 memory_or_named _ = inr ((λ h. cc), refl)
@@ -24,14 +24,14 @@ module _ {F : Type 0} {order : ℕ} (m : Modular F order) (tells : FlatInput F �
   named : (d : Data) (e : AirError) → RefusesValue m d e → air_refusal e ≡ refusals.Air e → Refuses d (air_refusal e)
   named d e refuses is = inr (e, refuses, (refl, ap (λ w. refusal_text (name_of w)) is))
 
-  -- whatever has these parts is refused by the refusal's own name
+  -- every value with these parts is answered with the error's own name
   pub parts_refused : (P : Data → Type 0) (e : AirError) → ((d : Data) → P d → e ≢ Memory → RefusesValue m d e) → (air_refusal e ≡ refusals.Memory) ⊎ ((d : Data) → P d → Refuses d (air_refusal e))
   parts_refused P e refuses = elim (memory_or_named e) [
     | inl memory ↦ inl (ap air_refusal memory)
     | inr other ↦ inr (λ d h. named d e (refuses d h other.0) other.1)
   ]
 
-  -- what its audit refuses refuses whatever spells the input
+  -- if the audit of the input fails, so does every value that spells it
   pub input_refused : (P : Data → Type 0) (input : FlatInput F) (why : Refusal) → ((d : Data) → P d → SpellsInput m d input) → (why ≡ refusals.Memory) ⊎ ((e : AirError) × AuditRefusesInput m input e × (why ≡ air_refusal e)) → (why ≡ refusals.Memory) ⊎ ((d : Data) → P d → Refuses d why)
   input_refused P input why spelt (inl memory) = inl memory
   input_refused P input why spelt (inr h) =

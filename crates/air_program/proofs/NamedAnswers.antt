@@ -1,4 +1,4 @@
--- What answers bytes, over the field that their value names, step by step.
+-- The answer to bytes, over the field that their value names, step by step.
 use Rattle.std.proofs.Common.{◌≡◌, ◌⊎◌, ℕ, List, Option, Some, None, Result, Ok, Err, IfOk, IfErr, String, string_bytes, codes, refl, sym, ap, subst, ◌∙◌, inl, inr}
 use Rattle.std.specs.Global.{Global}
 use Rattle.serde_json.specs.Data.{Data}
@@ -12,12 +12,12 @@ use Rattle.air_object.specs.declared.parts.Parts.{Parts}
 use Rattle.air_program.specs.declared.refusals.Refusal.{Refusal}
 use Rattle.air_program.specs.declared.refusals.Refusal.TheVariants as refusals
 
--- what follows of two facts on one answer
+-- two facts about one answer, combined
 pub if_both : {T E : Type 0} (P Q R : T → Type 0) (r : Result T E) → ((x : T) → P x → Q x → R x) → IfOk r P → IfOk r Q → IfOk r R
 if_both P Q R (Ok x) h p q = h x p q
 if_both P Q R (Err e) h p q = tt
 
--- and is an answer, where want of memory alone is refused
+-- two facts make an answer, if the call fails only with `Memory`
 pub gives_both : {A : ℕ → List ℕ → Type 0} (P Q : ℕ × String Global → Type 0) (r : Result (ℕ × String Global) Refusal) → ((x : ℕ × String Global) → P x → Q x → A x.0 (string_bytes x.1)) → IfOk r P → IfOk r Q → IfErr r (λ why. why ≡ refusals.Memory) → GivesAnswer A r
 gives_both P Q (Ok x) h p q memory = record { ok = h x p q; refused = tt }
 gives_both P Q (Err why) h p q memory = record { ok = tt; refused = inl memory }
@@ -26,24 +26,24 @@ or_so : {M A B : Type 0} → M ⊎ A → (A → B) → M ⊎ B
 or_so (inl memory) h = inl memory
 or_so (inr a) h = inr (h a)
 
--- what gives an answer gives whatever follows of it
+-- one answer implies another
 pub gives_so : {A B : ℕ → List ℕ → Type 0} (r : Result (ℕ × String Global) Refusal) → GivesAnswer A r → ((status : ℕ) (text : List ℕ) → A status text → B status text) → GivesAnswer B r
 gives_so (Ok p) given h = record { ok = h p.0 (string_bytes p.1) given.ok; refused = tt }
 gives_so (Err why) given h = record { ok = tt; refused = or_so given.refused (h 2 (refusal_text (name_of why))) }
 
--- bytes stand for one value
+-- bytes are the text of at most one value
 one_value : (bytes : List ℕ) (d e : Data) → StandsFor bytes d → StandsFor bytes e → d ≡ e
 one_value bytes d e h k = cc (sym h.1 ∙ k.1)
 
--- what the member `field` names is told by the other members too
+-- the other members suffice to read the field
 same_field : {F : Type 0} {p : ℕ} (m : Modular F p) (parts : Parts F) (d : Data) → HasParts m parts d → field_of d ≡ field_of (view parts.rest)
 unfolding field_of
 same_field m parts d has = ap named_by (has.others (codes "field") (λ e. absurd cc) (λ e. absurd cc))
 
--- Below, `parts` were read of a value that the bytes stand for.
+-- Below, `parts` were read from a value whose text the bytes are.
 
 module _ (answers : (F : Type 0) (p : ℕ) → Modular F p → Data → ℕ → List ℕ → Type 0) {F : Type 0} {p : ℕ} (m : Modular F p) (bytes : List ℕ) (parts : Parts F) (read : (d : Data) × StandsFor bytes d × HasParts m parts d) where
-  -- what answers each value that has them answers the value of the bytes
+  -- an answer to every value with these parts is an answer to the bytes' value
   pub value_answered : (r : Result (ℕ × String Global) Refusal) → GivesAnswer (AnswersParts answers m parts) r → GivesAnswer (AnswersValue (answers F p m) bytes) r
   value_answered r given = gives_so r given (λ status text h. inr (read.0, read.1, h read.0 read.2))
 
@@ -54,11 +54,11 @@ module _ (answers : (F : Type 0) (p : ℕ) → Modular F p → Data → ℕ → 
   named field is status text (inl none) = inl none
   named field is status text (inr h) = inr (h.0, h.1, subst (λ o. AnswersNamed answers o h.0 status text) (field_is (Some field) h.0 h.1 is) h.2)
 
-  -- what answers their value over the field that the parts name answers the bytes
+  -- an answer over the field that the parts name is an answer to the bytes
   pub named_answered : (field : FieldName) (r : Result (ℕ × String Global) Refusal) → Some field ≡ field_of (view parts.rest) → GivesAnswer (AnswersValue (λ d s t. OverField (λ G q n. answers G q n d s t) field) bytes) r → GivesAnswer (AnswersBytes answers bytes) r
   named_answered field r is given = gives_so r given (named field is)
 
-  -- the parts name none
+  -- the parts name no field
   pub none_named : None ≡ field_of (view parts.rest) → GivesAnswer (AnswersBytes answers bytes) (Err refusals.Field)
   none_named is = record {
     ok = tt;

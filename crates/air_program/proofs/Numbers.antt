@@ -1,4 +1,4 @@
--- The numbers of a line, one after the other.
+-- The numbers of a line, one after another.
 use Rattle.std.proofs.Common.{◌≡◌, ℕ, ◌%◌, ◌≤◌, List, [], ◌∷◌, ◌++◌, append_assoc, Option, Some, None, option_map, refl, ap, arith}
 use Rattle.std.proofs.lemmas.List.{map-append}
 use Rattle.air_field.specs.BabyBear.{BabyBear}

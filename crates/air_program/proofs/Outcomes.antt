@@ -7,7 +7,7 @@ use Rattle.air_program.specs.declared.commands.Request.{Request}
 use Rattle.air_program.specs.declared.refusals.Refusal.{Refusal}
 use Rattle.air_program.specs.declared.refusals.Refusal.TheVariants as refusals
 
--- a refusal that was written whole has the status 2
+-- a refusal that is written completely has the status 2
 pub refusal_written : {E : Type 0} (r : Result ℕ E) (A : List ℕ → Type 0) (O : ℕ → List ℕ → Type 0) (text : List ℕ) → IfOk r (λ s. s ≡ 2) → OnOk r (A text) → O 2 text → IfOk r (λ s. (t : List ℕ) × A t × O s t)
 refusal_written (Ok s) A O text two written o = (text, written, subst (λ n. O n text) (sym two) o)
 refusal_written (Err _) A O text two written o = tt
@@ -17,7 +17,7 @@ module _ (answers : Request → List ℕ → ℕ → List ℕ → Type 0) (befor
   read_refused request why consumed end (inl memory) = inl (refl, ap (λ w. refusal_text (name_of w)) memory)
   read_refused request why consumed end (inr answer) = inr (input, consumed, end, answer)
 
-  -- what answers the whole input, or want of memory, is the outcome
+  -- the outcome is the answer to the whole input, or `Memory`
   pub refused_outcome : (request : Request) (asked : Option Request) (failed : Bool) (why : Refusal) → Some request ≡ asked → failed ≡ false → Consumes before after input → IsAtEnd after → (why ≡ refusals.Memory) ⊎ answers request input 2 (refusal_text (name_of why)) → IsOutcome answers asked failed before after 2 (refusal_text (name_of why))
   refused_outcome request asked failed why is well consumed end refused =
       subst (λ o. IsOutcome answers o failed before after 2 (refusal_text (name_of why))) is

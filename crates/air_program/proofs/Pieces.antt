@@ -1,4 +1,4 @@
--- Lines and fields, one after the other.
+-- Lines and fields, one after another.
 use Rattle.std.proofs.Common.{◌≡◌, ℕ, Bool, true, false, eqb, ltb, cond, List, [], ◌∷◌, length, filter, refl, ap, ◌∙◌, rules, tests}
 use Rattle.std.proofs.lemmas.Bool.{lt-ltb}
 use Rattle.std.specs.List.{slice_split, onto_first}

@@ -1,4 +1,4 @@
--- Rows, one after the other.
+-- Rows, one after another.
 use Rattle.std.proofs.Common.{◌≡◌, ℕ, ◌+◌, ◌<◌, true, List, [], ◌∷◌, ◌++◌, length, length-append, map, Option, Some, None, option_map, option_and_then, refl, ap, ◌∙◌, arith}
 use Rattle.std.proofs.lemmas.Bool.{lt-ltb}
 use Rattle.std.proofs.lemmas.List.{append-nil, length-map}
@@ -11,7 +11,7 @@ use Rattle.air_program.specs.Parsing.{element_values, onto, with_row, PushesRow}
 some_true : {X : Type 0} (x : X) (xs : List X) → has_some (x ∷ xs) ≡ true
 some_true x xs = lt-ltb _ _ (omega arith)
 
--- a field makes a number
+-- a field is read as a number
 cons_of : (o : Option ℕ) (left : Option (List ℕ)) (row : List ℕ) → option_and_then (λ n. option_map (λ ns. n ∷ ns) left) o ≡ Some row → (n : ℕ) × (ns : List ℕ) × (row ≡ n ∷ ns)
 cons_of None left row e = absurd cc
 cons_of (Some n) None row e = absurd cc
@@ -33,7 +33,7 @@ bad : (fields : List (List ℕ)) (lines : List (List (List ℕ))) → numbers_in
 bad [] lines e = absurd cc
 bad (f ∷ fs) lines e = rw (some_true f fs, e) refl
 
--- ---- the lines that are left
+-- ---- the remaining lines
 
 row_read : (before after : List ℕ) (numbers : Option (List ℕ)) → onto before numbers ≡ Some after → (row : List ℕ) × (numbers ≡ Some row) × (after ≡ before ++ row)
 row_read before after None e = absurd cc

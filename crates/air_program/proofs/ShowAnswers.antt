@@ -1,4 +1,4 @@
--- What `show` answers to the members `constraints` and `labels`.
+-- The answer of `show` to the members `constraints` and `labels`.
 use Rattle.std.proofs.Common.{◌≡◌, ◌≢◌, ◌⊎◌, ℕ, ◌<◌, List, length, map, All, Result, Ok, Err, string_bytes, refl, inl, inr}
 use Rattle.serde_json.specs.Data.{Data}
 use Rattle.serde_json.specs.View.{view}
@@ -45,7 +45,7 @@ module _ {F : Type 0} {p : ℕ} (m : Modular F p) (parts : Parts F) (r : Result 
   first : (f : FlatError) → r ≡ Err f → f ≢ faults.Memory → (d : Data) → HasParts m parts d → (labelled_constraints m).fault d f
   first f is n d has = (labelled_agree m).fault d f (fails_is f (labelled_read m d) (gives_err seen_labelled r f (labelled_read m d) is (read_of d has)) n)
 
-  -- the fault is the members' first, unless memory ran out
+  -- the fault is the first one of the members, or `Memory`
   pub refused_given : (f : FlatError) → r ≡ Err f
       → (air_refusal (air_fault f) ≡ refusals.Memory) ⊎ ((d : Data) → HasParts m parts d → ShownIn F p m d 2 (refusal_text (name_of (air_refusal (air_fault f)))))
   refused_given faults.Memory is = inl refl

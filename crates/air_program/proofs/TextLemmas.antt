@@ -8,7 +8,7 @@ use Rattle.air_report.specs.declared.debug.failure.ConstraintFailure.{Constraint
 use Rattle.air_program.specs.Texts.{IsFailureLine, PushesLine}
 use Rattle.air_print.specs.Lines.{lines_text}
 
--- the text is the lines in front, and one for each of the failures before i
+-- the text consists of the lines in `front`, and one line for each failure before i
 pub record HasLines (front : List (List ℕ)) (failures : List ConstraintFailure) (i : ℕ) (text : List ℕ) : Type 0 where
   pub lines : List (List ℕ)
   pub each : AllZip IsFailureLine (map seen_failure (take i failures)) lines

@@ -1,4 +1,4 @@
--- What an audit finds, and what answers a whole input that is a trace of Fibonacci.
+-- The findings of an audit, and the answer to an input that is a trace of Fibonacci.
 use Rattle.std.specs.Prelude.{◌≡◌, ◌⊎◌, ◌<◌, ◌==◌, ℕ, List, codes, Bool, Option, Some, None}
 use Rattle.air_field.specs.Grid.{Grid, grid_of}
 use Rattle.air_field.specs.Extension.{own_basis}
@@ -14,32 +14,32 @@ use Rattle.air_program.specs.Parsing.{element_values}
 use Rattle.air_program.specs.Texts.{Found, found_in, IsFindingsText, findings_status}
 use Rattle.air_program.specs.Refusals.{AnswersRefusal}
 
--- the test whether two elements are equal: whether their numbers are
+-- two elements are equal if their canonical numbers are
 abbrev pub equal_numbers : {F : Type 0} {p : ℕ} → Modular F p → F → F → Bool
 equal_numbers m a b = m.value a == m.value b
 
--- what an audit found
+-- the findings of an audit
 abbrev pub found_by : {F : Type 0} → Audit F → Found
 found_by audit = found_in (record { degree = audit.degree; report = audit.report })
 
--- What an audit under a cap, in a domain of weight w, finds of an instance.
+-- An audit of an instance, under a cap and in a domain of weight w, has these findings.
 pub record AuditFinds {F : Type 0} {p : ℕ} (m : Modular F p) (x : Instance F) (cap : Option ℕ) (w : ℕ) (f : Found) : Type 0 where
   pub audit : Audit F
   pub is_audit : IsAuditUnder (modular_ring m) (equal_numbers m) own_basis x cap w audit
   pub found_is : f ≡ found_by audit
 
--- what such an audit refuses
+-- the errors of such an audit
 abbrev pub CappedAuditRefuses : {F : Type 0} {p : ℕ} → Modular F p → Instance F → Option ℕ → ℕ → AirError → Type 0
 CappedAuditRefuses m = AuditRefusesUnder (modular_ring m) (equal_numbers m)
 
--- the text and the status of what an audit finds
+-- the status and the text for the findings of an audit
 abbrev pub TellsFound : {F : Type 0} {p : ℕ} → Modular F p → Instance F → Option ℕ → ℕ → ℕ → List ℕ → Type 0
 TellsFound m x cap w status text =
     (f : Found) × AuditFinds m x cap w f × (status ≡ findings_status f) × IsFindingsText f text
 
 -- ---- Fibonacci
 
--- Fibonacci on public values and a trace
+-- Fibonacci, with public values, on a trace
 abbrev pub fibonacci_instance : Grid BabyBear → List BabyBear → Instance BabyBear
 fibonacci_instance main public = instance fibonacci_declaration main public
 
@@ -47,13 +47,13 @@ fibonacci_instance main public = instance fibonacci_declaration main public
 abbrev pub PassesDegree : Instance BabyBear → Option ℕ → ℕ → Type 0
 PassesDegree x cap w = (0 < w) × IsDegreePast (modular_ring baby_bears) (equal_numbers baby_bears) x cap w
 
--- what is found, or the name of a degree that passes `usize`
+-- the findings, or `DegreeOverflow` if a degree passes `usize`
 abbrev pub AnswersGiven : Instance BabyBear → Option ℕ → ℕ → ℕ → List ℕ → Type 0
 AnswersGiven x cap w status text =
     TellsFound baby_bears x cap w status text
     ⊎ (PassesDegree x cap w × AnswersRefusal (codes "DegreeOverflow") status text)
 
--- `Syntax` where the input isn't in the grammar, else what answers Fibonacci on its trace
+-- `Syntax` if the input isn't in the grammar, otherwise the answer to its trace
 abbrev pub IsAnswerTo : Option ℕ → ℕ → Option (List ℕ × List ℕ) → ℕ → List ℕ → Type 0
 IsAnswerTo cap w None status text = AnswersRefusal (codes "Syntax") status text
 IsAnswerTo cap w (Some p) status text =

@@ -1,4 +1,4 @@
--- The values at a row that are at hand.
+-- Cached values at a row.
 use Rattle.std.specs.Prelude.{◌≡◌, ℕ, List, length, Option}
 use Rattle.air_field.specs.Assignment.{Trace, row_assignment}
 use Rattle.air_field.specs.Ring.{CommRing}
@@ -7,7 +7,7 @@ use Rattle.air_symbolic.specs.declared.pools.expr.SymbolicExpr.{SymbolicExpr}
 use Rattle.air_print.specs.Values.{Known}
 use Rattle.air_program.specs.declared.explain.RowValues.{RowValues}
 
--- They are the values of the marked numbers at their row.
+-- `at` has the values of the marked expressions at its row.
 pub record KnownAt {F : Type 0} (r : CommRing F) (trace : Trace F) (ns : List (SymbolicExpr (BaseLeaf F))) (marks : List (Option ℕ)) (at : RowValues F) : Type 0 where
   pub places : length at.values.items ≡ length ns
   pub known : Known r (row_assignment r trace at.row) ns marks (length ns) at.values.items

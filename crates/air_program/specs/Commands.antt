@@ -14,7 +14,7 @@ command_of word =
     if bytes_eq word (codes "fibonacci") then Some commands.Fibonacci else
     if bytes_eq word (codes "named") then Some commands.Named else None
 
--- one or more decimal digits, of a value that fits `usize`
+-- one or more decimal digits whose value fits `usize`
 abbrev pub is_cap : List ℕ → Bool
 is_cap word = nat_lt 0 (length word) && (all_ascii_digits word && nat_lt (digits_value 10 word) (2 ^ 64))
 
@@ -22,7 +22,7 @@ is_cap word = nat_lt 0 (length word) && (all_ascii_digits word && nat_lt (digits
 abbrev pub cap_of : List ℕ → Option ℕ
 cap_of word = if is_cap word then Some (digits_value 10 word) else None
 
--- the value of the digits behind `w=`, by the rule of a cap
+-- the value of the digits after `w=`, if they form a cap
 abbrev pub weight_of : List ℕ → Option ℕ
 weight_of word =
     if starts_with (λ a b. a == b) word (codes "w=") then cap_of (drop 2 word) else None
@@ -31,18 +31,18 @@ weight_of word =
 abbrev pub trace : Option ℕ → ℕ → Command → Request
 trace cap w command = requests.Trace command cap w
 
--- behind a command one word: a weight, and there is no cap; or else a cap, and the weight is 0
+-- a command and one word: a weight and no cap, or else a cap and the weight 0
 abbrev pub setting_of : Command → List ℕ → Option ℕ → Option Request
 setting_of command word None = option_map (λ n. trace (Some n) 0 command) (cap_of word)
 setting_of command word (Some w) = Some (trace None w command)
 
--- behind a command two words: a cap and then a weight
+-- a command and two words: a cap, then a weight
 abbrev pub settings_of : Command → List ℕ → List ℕ → Option Request
 settings_of command cap weight =
     option_and_then
     (λ n. option_map (λ w. trace (Some n) w command) (weight_of weight)) (cap_of cap)
 
--- what a word by itself asks for
+-- the request of a single word
 abbrev pub word_request : List ℕ → Option Request
 word_request word =
     if bytes_eq word (codes "flat") then Some requests.Flat else
@@ -50,7 +50,7 @@ word_request word =
     if bytes_eq word (codes "explain") then Some requests.Explain else
     option_map (trace None 0) (command_of word)
 
--- a word by itself, or a command and behind it a cap, a weight or both
+-- a single word, or a command followed by a cap, a weight or both
 abbrev pub request_of : List (List ℕ) → Option Request
 request_of [] = None
 request_of (word ∷ []) = word_request word
@@ -60,7 +60,7 @@ request_of (word ∷ cap ∷ weight ∷ []) =
     option_and_then (λ command. settings_of command cap weight) (command_of word)
 request_of (word ∷ cap ∷ weight ∷ more ∷ words) = None
 
--- the command labels what is asserted
+-- whether the command labels the assertions
 abbrev pub has_labels : Command → Bool
 has_labels commands.Fibonacci = false
 has_labels commands.Named = true

@@ -1,4 +1,4 @@
--- What answers the word `explain`.
+-- The answer to the word `explain`.
 use Rattle.std.specs.Prelude.{◌≡◌, ℕ, ◌-◌, ◌<◌, List, [], ◌∷◌, ◌++◌, length, map, Option, None, Some, Vec, slice_get}
 use Rattle.std.specs.Global.{Global}
 use Rattle.std.specs.Option.{option_to_list}
@@ -27,30 +27,30 @@ use Rattle.air_print.specs.Lines.{lines_text}
 abbrev pub Failure : Type 0
 Failure = ℕ × ℕ × Option (List ℕ)
 
--- the constraints at the places of the failures
+-- the roots of the failures' constraints
 abbrev pub failing_roots : List ℕ → List Failure → List ℕ
 failing_roots roots failures = flat_map (λ f. option_to_list (slice_get roots (place_of f).1)) failures
 
--- a line for the cell, if there is one, the leaves having the values of s
+-- a line for the boundary value, if there is one; s gives the values of the leaves
 abbrev pub cell_lines : {F : Type 0} {p : ℕ} → Modular F p → (Leaf → F) → Option BoundaryPublic → List (List ℕ)
 cell_lines m s None = []
 cell_lines m s (Some cell) = cell_line m s cell.column cell.public_value ∷ []
 
--- Below, constraints are roots of a pool, and `names` has at each number's place its name.
+-- Below, constraints are roots of a pool, and `names` has the name of expression i at index i.
 
 module _ {F : Type 0} {p : ℕ} (m : Modular F p) (pool : BaseNodes F) (roots : List ℕ) (cells : List BoundaryPublic) (trace : Trace F) (names : List (Option ℕ)) where
-  -- what stands at the leaves in a row
+  -- the values of the leaves at a row
   abbrev pub at_row : ℕ → Leaf → F
   at_row row = row_assignment (modular_ring m) trace row
 
-  -- What stands below a failure: the lines of the constraint at its place, in its row; where there is no such constraint, that
-  -- of the cell whose number in the list of cells follows those of the constraints.
+  -- The lines below a failure. For a root: the lines that explain it at the failure's row, if the row is in the trace. Otherwise: the line of the boundary
+  -- value whose index is the failure's constraint index less the number of roots.
   abbrev pub StandsBelow : ℕ × ℕ → Option ℕ → List (List ℕ) → Type 0
   StandsBelow place (Some root) lines =
       place.0 < length trace.main_trace.rows → Explains m (modular_ring m) (at_row place.0) pool names root lines
   StandsBelow place None lines = lines ≡ cell_lines m (at_row place.0) (slice_get cells (place.1 - length roots))
 
-  -- the line that `flat` prints for the failure, and what stands below
+  -- the line that `flat` prints for the failure, and the lines below it
   pub record IsExplained (f : Failure) (lines : List (List ℕ)) : Type 0 where
     pub line : List ℕ
     pub below : List (List ℕ)
@@ -58,23 +58,23 @@ module _ {F : Type 0} {p : ℕ} (m : Modular F p) (pool : BaseNodes F) (roots : 
     pub is_below : StandsBelow (place_of f) (slice_get roots (place_of f).1) below
     pub lines_are : lines ≡ line ∷ below
 
-  -- new is old and further lines, which explain these failures
+  -- `new` is `old` followed by the lines that explain these failures
   pub record PushesExplained (failures : List Failure) (old new : List ℕ) : Type 0 where
     pub blocks : List (List (List ℕ))
     pub each : AllZip IsExplained failures blocks
     pub pushed : new ≡ old ++ lines_text (flat_map (λ b. b) blocks)
 
--- new is old and lines for those of the names that the failures' constraints reach, in order
+-- `new` is `old` followed by a line for each name that the failures' constraints reach, in order
 pub record PushesNames {F : Type 0} {p : ℕ} (m : Modular F p) (pool : BaseNodes F) (roots : List ℕ) (names : List ℕ × List (Option ℕ)) (failures : List Failure) (old new : List ℕ) : Type 0 where
   pub marks : List (Option ℕ)
   pub failing : Reached base_leaves pool.nodes (failing_roots roots failures) marks
   pub pushed : new ≡ old ++ lines_text (reached_definitions m pool names marks)
 
--- The lines of the counts; of the names that `show` gives those that failing constraints reach, in order.
+-- The lines of the counts, and the definitions of those names of `show` that failing constraints reach, in order.
 abbrev pub front_lines : {F : Type 0} {p : ℕ} → Modular F p → BaseNodes F → List ℕ × List (Option ℕ) → List (Option ℕ) → Found → List (List ℕ)
 front_lines m pool names marks f = count_lines f ++ reached_definitions m pool names marks
 
--- These lines, and then each failure with what stands below it.
+-- These lines, and then each failure with the lines below it.
 pub record IsExplainedText {F : Type 0} {p : ℕ} (m : Modular F p) (pool : BaseNodes F) (roots : List ℕ) (cells : List BoundaryPublic) (trace : Trace F) (f : Found) (text : List ℕ) : Type 0 where
   pub names : List ℕ × List (Option ℕ)
   pub are_names : AreNames base_leaves pool.nodes roots names
@@ -82,7 +82,7 @@ pub record IsExplainedText {F : Type 0} {p : ℕ} (m : Modular F p) (pool : Base
   pub failing : Reached base_leaves pool.nodes (failing_roots roots f.failures) marks
   pub explains : PushesExplained m pool roots cells trace names.1 f.failures (lines_text (front_lines m pool names marks f)) text
 
--- a main trace with what stands beside it
+-- a trace of a main trace, a preprocessed trace, periodic columns and public values
 abbrev pub trace_with : {F : Type 0} → Grid F → Option (Grid F) → List (Vec F Global) → List F → Trace F
 trace_with main table periodic public = record {
   main_trace = main;
@@ -92,14 +92,14 @@ trace_with main table periodic public = record {
 }
 
 module _ {F : Type 0} {p : ℕ} (m : Modular F p) where
-  -- the text and the status of what its audit finds, explained
+  -- the status and the text of its audit's findings, explained
   abbrev pub TellsExplained : FlatInput F → ℕ → List ℕ → Type 0
   TellsExplained input status text =
       (f : Found) × AuditFinds m (flat_instance input) input.cap input.transition_weight f
       × (status ≡ findings_status f)
       × IsExplainedText m input.pool input.roots.items input.cells.items (trace_with input.main input.preprocessed input.periodic.items input.public_values.items) f text
 
--- what the audit of the input that the value spells finds, explained, or the first refusal
+-- the explained findings of the audit of the input that the value spells, or the first error
 abbrev pub ExplainedIn : (F : Type 0) (p : ℕ) → Modular F p → Data → ℕ → List ℕ → Type 0
 ExplainedIn F p m = AnswersInput m (TellsExplained m)
 

@@ -11,7 +11,7 @@ use Rattle.std.specs.Str.Parse.{digits_value}
 abbrev pub is_numeral : List ℕ → Bool
 is_numeral field = nat_lt 0 (length field) && (nat_le (length field) 10 && all_ascii_digits field)
 
--- of value at most 2013265920
+-- at most 2013265920
 abbrev pub if_element : ℕ → Option ℕ
 if_element n = if nat_le n 2013265920 then Some n else None
 
@@ -23,16 +23,16 @@ element_number field = if is_numeral field then if_element (digits_value 10 fiel
 abbrev pub has_some : {X : Type 0} → List X → Bool
 has_some xs = nat_lt 0 (length xs)
 
--- what stands between bytes 32, where anything does
+-- the non-empty parts between bytes 32
 unfoldable pub fields_of : List ℕ → List (List ℕ)
 fields_of line = filter has_some (slice_split (λ b. b == 32) line)
 
--- all of them, or nothing where one is missing
+-- all of them, or nothing if one is missing
 abbrev pub all_of : {X : Type 0} → List (Option X) → Option (List X)
 all_of [] = Some []
 all_of (x ∷ xs) = option_and_then (λ v. option_map (λ vs. v ∷ vs) (all_of xs)) x
 
--- the numbers that these fields write
+-- the numbers in these fields
 abbrev pub numbers_in : List (List ℕ) → Option (List ℕ)
 numbers_in fields = all_of (map element_number fields)
 
@@ -48,12 +48,12 @@ rows_in ls = all_of (map numbers_in (filter has_some ls))
 unfoldable pub rows_of_lines : List (List ℕ) → Option (List (List ℕ))
 rows_of_lines ls = rows_in (map fields_of ls)
 
--- three public values, and rows of two, one after the other
+-- three public values, and rows of two numbers, concatenated
 abbrev pub input_of : List (List ℕ) → Option (List ℕ × List ℕ)
 input_of [] = None
 input_of (public ∷ rows) = if length public == 3 && list_all (λ row. length row == 2) rows then Some (public, concat rows) else None
 
--- The public values and the trace, or nothing where the syntax is wrong. Lines are as std's `lines` has them: a byte 10 ends one,
--- and one byte 13 before it is dropped. The last line may lack its end, and then a byte 13 stays.
+-- The public values and the trace, or nothing if the syntax is wrong. Lines are those of std's `lines`: a byte 10 ends a line, and one byte 13 before it is
+-- dropped. The last line may lack its end, and then a byte 13 stays.
 unfoldable pub parse : List ℕ → Option (List ℕ × List ℕ)
 parse bytes = option_and_then input_of (rows_of_lines (lines bytes))

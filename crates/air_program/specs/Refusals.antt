@@ -1,4 +1,4 @@
--- Refusals, their names and their line.
+-- Refusals, their names and their lines.
 use Rattle.std.specs.Prelude.{◌≡◌, ◌⊎◌, ℕ, List, [], ◌∷◌, ◌++◌, codes, Result, IfOk, IfErr, String, string_bytes}
 use Rattle.std.specs.Global.{Global}
 use Rattle.air_core.specs.declared.errors.AirError.{AirError}
@@ -44,7 +44,7 @@ name_of refusals.Json = codes "Json"
 name_of refusals.Field = codes "Field"
 name_of (refusals.Air e) = air_name e
 
--- what the program refuses for a refusal from below: want of memory is its own
+-- the program's refusal for an error of the library: `Memory` becomes its own
 abbrev pub air_refusal : AirError → Refusal
 air_refusal air.Memory = refusals.Memory
 air_refusal e = refusals.Air e
@@ -57,7 +57,7 @@ refusal_text name = lines_text ((codes "refused: " ++ name) ∷ [])
 abbrev pub AnswersRefusal : List ℕ → ℕ → List ℕ → Type 0
 AnswersRefusal name status text = (status ≡ 2) × (text ≡ refusal_text name)
 
--- What is given is an answer: a status and a text are one, and so is a refusal, unless memory ran out.
+-- A status and a text are an answer; so is a refusal, unless it is `Memory`.
 pub record GivesAnswer (answers : ℕ → List ℕ → Type 0) (given : Result (ℕ × String Global) Refusal) : Type 0 where
   pub ok : IfOk given (λ p. answers p.0 (string_bytes p.1))
   pub refused : IfErr given (λ why. (why ≡ refusals.Memory) ⊎ answers 2 (refusal_text (name_of why)))

@@ -1,4 +1,4 @@
--- What answers a request.
+-- The answer to a request.
 use Rattle.std.specs.Prelude.{ℕ, List}
 use Rattle.air_program.specs.Answer.{IsAnswerTo}
 use Rattle.air_program.specs.FlatAnswer.{IsFlatAnswer}

@@ -1,4 +1,4 @@
--- What answers the word `show`.
+-- The answer to the word `show`.
 use Rattle.std.specs.Prelude.{◌≡◌, ◌⊎◌, ℕ, ◌<◌, List, map, All}
 use Rattle.serde_json.specs.Data.{Data}
 use Rattle.air_field.specs.Modular.{Modular}
@@ -12,8 +12,7 @@ use Rattle.air_program.specs.ByField.{AnswersBytes}
 use Rattle.air_object.specs.Members.{labelled_constraints}
 use Rattle.air_program.specs.Refusals.{AnswersRefusal, air_name}
 
--- The text shows roots of a pool that have the trees which the member `constraints` spells, with the labels which the member
--- `labels` does.
+-- The text shows roots of a pool, which have the trees that the member `constraints` spells, with the labels that the member `labels` spells.
 pub record ShowsValue {F : Type 0} {p : ℕ} (m : Modular F p) (d : Data) (text : List ℕ) : Type 0 where
   pub pool : BaseNodes F
   pub roots : List ℕ
@@ -23,7 +22,7 @@ pub record ShowsValue {F : Type 0} {p : ℕ} (m : Modular F p) (d : Data) (text 
   pub spelt : (labelled_constraints m).spells d (map (tree_at pool) roots, labels)
   pub shows : ShowsRoots m pool roots labels text
 
--- that is shown, or the first fault of the two members is named
+-- such a text, or the name of the first fault of the two members
 abbrev pub ShownIn : (F : Type 0) (p : ℕ) → Modular F p → Data → ℕ → List ℕ → Type 0
 ShownIn F p m d status text =
     ((status ≡ 0) × ShowsValue m d text)

@@ -6,7 +6,7 @@ use Rattle.air_print.specs.Lines.{lines_text}
 use Rattle.air_report.specs.FailureTexts.{seen_failure, label_suffix}
 use Rattle.air_program.specs.declared.texts.Findings.{Findings}
 
--- what was found: the three counts, and of each failure the row, the constraint and the label's bytes
+-- the findings of an audit: the three counts, and the row, the constraint and the label's bytes of each failure
 pub record Found : Type 0 where
   pub degree : ℕ
   pub rows : ℕ
@@ -29,8 +29,7 @@ place_of f = (f.0, f.1)
 unfoldable pub place_text : ℕ × ℕ → List ℕ
 place_text p = codes "row " ++ (decimal p.0 ++ (codes ": #" ++ decimal p.1))
 
--- the place of the failure, and behind it what its label shows as: any text without a line end, where nothing more is said
--- of that
+-- the place of the failure, followed by the shown text of its label: any text without a line end if the label's text is unspecified
 pub record IsFailureLine (f : ℕ × ℕ × Option (List ℕ)) (line : List ℕ) : Type 0 where
   pub shown : List ℕ
   pub line_is : line ≡ place_text (place_of f) ++ shown
@@ -41,18 +40,18 @@ pub record IsFailureLine (f : ℕ × ℕ × Option (List ℕ)) (line : List ℕ)
 unfoldable pub count_lines : Found → List (List ℕ)
 count_lines f = (codes "degree " ++ decimal f.degree) ∷ (codes "rows " ++ decimal f.rows) ∷ (codes "constraints " ++ decimal f.constraints) ∷ []
 
--- and then a line for each failure
+-- the three counts, followed by a line for each failure
 pub record IsFindingsText (f : Found) (text : List ℕ) : Type 0 where
   pub lines : List (List ℕ)
   pub each : AllZip IsFailureLine f.failures lines
   pub text_is : text ≡ lines_text (count_lines f ++ lines)
 
--- new is old and a further line for the failure
+-- `new` is `old` followed by a line for the failure
 pub record PushesLine (f : ℕ × ℕ × Option (List ℕ)) (old new : List ℕ) : Type 0 where
   pub line : List ℕ
   pub is_line : IsFailureLine f line
   pub pushed : new ≡ old ++ lines_text (line ∷ [])
 
--- 0 without failures, 1 with
+-- 0 without failures, otherwise 1
 abbrev pub findings_status : Found → ℕ
 findings_status f = if length f.failures == 0 then 0 else 1

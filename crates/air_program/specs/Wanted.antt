@@ -1,4 +1,4 @@
--- What answers an object over a field, by what is wanted of it.
+-- The answer to an object over a field, by the word that was given.
 use Rattle.std.specs.Prelude.{ℕ, List}
 use Rattle.serde_json.specs.Data.{Data}
 use Rattle.air_field.specs.Modular.{Modular}

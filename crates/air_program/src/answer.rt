@@ -34,7 +34,7 @@ fn trace_of(values: Vec<BabyBear>) -> RowMajorMatrix<BabyBear>
     }
 }
 
-/// The AIR that a command is about.
+/// The AIR of a command.
 fn air_of(command: Command) -> Fibonacci
     ensures { result.is_named ≡ has_labels command }
 {
@@ -44,7 +44,7 @@ fn air_of(command: Command) -> Fibonacci
     }
 }
 
-/// What the audit of an AIR on a trace finds.
+/// The findings of the audit of an AIR on a trace.
 pub(crate) fn findings_of<
     'a,
     F: PrimeField64 + 'static,
@@ -72,8 +72,8 @@ pub(crate) fn findings_of<
     }
 }
 
-/// Audits Fibonacci on the trace. It fits the trace: nothing but memory can be wanting, and no degree but one of a
-/// domain whose weight is great can be refused.
+/// Audits Fibonacci on the trace. The trace has the right shape, so only two errors remain: `Memory`, and
+/// `DegreeOverflow` for a large weight.
 fn audit_fibonacci(
     alloc: Global,
     fibonacci: Fibonacci,
@@ -104,7 +104,7 @@ fn audit_fibonacci(
     }
 }
 
-/// 0 without failures, 1 with.
+/// 0 without failures, otherwise 1.
 pub(crate) fn status(findings: &Findings) -> u8
     ensures { result ≡ findings_status (found_in findings.now) }
 {
@@ -115,7 +115,7 @@ pub(crate) fn status(findings: &Findings) -> u8
     }
 }
 
-/// The status and the text of what was found.
+/// The status and the text of the findings.
 pub(crate) fn render(alloc: Global, findings: &Findings) -> Result<(u8, String), Refusal>
     ensures status { IfOk result (λ p. p.0 ≡ findings_status (found_in findings.now)) }
     ensures text { IfOk result (λ p. IsFindingsText (found_in findings.now) (string_bytes p.1)) }
@@ -127,7 +127,7 @@ pub(crate) fn render(alloc: Global, findings: &Findings) -> Result<(u8, String),
     }
 }
 
-/// The status and the text that answer a trace of Fibonacci.
+/// The status and the text for a trace of Fibonacci.
 fn answer_trace(
     alloc: Global,
     command: Command,
@@ -159,7 +159,7 @@ fn answer_trace(
     render(alloc, &findings)
 }
 
-/// The status and the text that answer an input.
+/// The status and the text for an input.
 pub fn answer(alloc: Global, request: Request, input: &[u8]) -> Result<(u8, String), Refusal>
     ensures { GivesAnswer (Answers request input.now) result }
 {

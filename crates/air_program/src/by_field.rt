@@ -15,18 +15,18 @@ use air_field::{BabyBear, Goldilocks, KoalaBear, Mersenne31, PrimeField64};
 use air_object::{FieldName, Parts, TextFault, field_of, parts_of};
 use std::alloc::Global;
 
-/// What is wanted of an object.
+/// The kind of answer to an object.
 #[derive(Clone, Copy, Debug, PartialEq, Eq, Drop)]
 pub enum Wanted {
-    /// What an audit finds.
+    /// The findings of an audit.
     Audit,
-    /// That, and what stands at each failure.
+    /// These findings, with an explanation of each failure.
     Explain,
     /// The constraints.
     Show,
 }
 
-/// The parts of the JSON value that the bytes stand for, its trace and its constraints read as over F.
+/// The parts of the JSON value whose text the bytes are; the trace and the constraints are read over F.
 fn parts_from<F: PrimeField64>(alloc: Global, bytes: &[u8]) -> Result<Parts<F>, Refusal>
     ensures parts { IfOk result (λ p. (d : Data) × StandsFor bytes.now d
         × HasParts F.residues p d) }
@@ -43,7 +43,7 @@ fn parts_from<F: PrimeField64>(alloc: Global, bytes: &[u8]) -> Result<Parts<F>, 
     }
 }
 
-/// The status and the text that answer an object over F whose parts these are.
+/// The status and the text for an object over F, given its parts.
 fn answer_parts<F: PrimeField64 + 'static>(
     alloc: Global,
     wanted: Wanted,
@@ -59,7 +59,7 @@ fn answer_parts<F: PrimeField64 + 'static>(
     }
 }
 
-/// The status and the text that answer an object over F, of which the bytes are the text.
+/// The status and the text for an object over F, given its bytes.
 fn answer_over<F: PrimeField64 + 'static>(
     alloc: Global,
     wanted: Wanted,
@@ -72,8 +72,8 @@ fn answer_over<F: PrimeField64 + 'static>(
     answer_parts(alloc, wanted, parts)
 }
 
-/// The status and the text that answer a JSON object. It is read as over `BabyBear`, and once more over the field that it
-/// names, where that is another one.
+/// The status and the text for a JSON object. It is read over `BabyBear`, and then again over the field that it names,
+/// if that is another one.
 pub fn answer_object(alloc: Global, wanted: Wanted, bytes: &[u8]) -> Result<(u8, String), Refusal>
     ensures { GivesAnswer (AnswersBytes (AnswersIn wanted) bytes.now) result }
 {

@@ -3,7 +3,7 @@
 ghost use Rattle.std.specs.Prelude.{◌≡◌, ◌==◌, map, slice_index_or, string_bytes};
 ghost use Rattle.air_program.specs.Commands.{command_of, cap_of, weight_of, setting_of, settings_of, word_request, request_of};
 
-/// An AIR of the program's own.
+/// An AIR that comes with the program.
 #[derive(Clone, Copy, Debug, PartialEq, Eq, Drop)]
 pub enum Command {
     /// Fibonacci.
@@ -12,11 +12,11 @@ pub enum Command {
     Named,
 }
 
-/// What the words ask for.
+/// A request.
 #[derive(Clone, Copy, Debug, PartialEq, Eq, Drop)]
 pub enum Request {
-    /// An audit of the command's AIR on a trace; as many failures as the cap are enough, if there is one. The weight is
-    /// that of the domain's transition selector, 0 where it is linear.
+    /// An audit of the command's AIR on a trace. A further row is checked only while there are fewer failures than the
+    /// cap, if there is one. The weight is that of the domain's transition selector, 0 if the selector is linear.
     Trace {
         command: Command,
         cap: Option<usize>,
@@ -24,13 +24,13 @@ pub enum Request {
     },
     /// An audit of the AIR and the trace of a JSON object.
     Flat,
-    /// The constraints of a JSON object, as people read them.
+    /// The constraints of a JSON object, in infix notation.
     Show,
-    /// An audit of the AIR and the trace of a JSON object, and what stands where it fails.
+    /// An audit of the AIR and the trace of a JSON object, with an explanation of each failure.
     Explain,
 }
 
-/// The command of this word, if it is one.
+/// The command with this name, if there is one.
 fn command_of(word: &str) -> Option<Command>
     ensures { result ≡ command_of word.now }
 {
@@ -43,7 +43,7 @@ fn command_of(word: &str) -> Option<Command>
     }
 }
 
-/// Whether a plus stands first, which std's numbers may have.
+/// Whether the word begins with a plus, which std's parser would accept.
 fn starts_with_plus(word: &str) -> bool
     ensures { result ≡ (slice_index_or word.now 0 0 == 43) }
 {
@@ -51,7 +51,7 @@ fn starts_with_plus(word: &str) -> bool
     !bytes.is_empty() && bytes[0] == b'+'
 }
 
-/// The cap that a word writes in decimal digits, if it writes one.
+/// The cap in a word: decimal digits whose value fits.
 fn cap_of(word: &str) -> Option<usize>
     ensures { result ≡ cap_of word.now }
 {
@@ -64,7 +64,7 @@ fn cap_of(word: &str) -> Option<usize>
     }
 }
 
-/// The weight that a word writes behind `w=` as a cap is written, if it writes one.
+/// The weight in a word: `w=`, and then digits as in a cap.
 fn weight_of(word: &str) -> Option<usize>
     ensures { result ≡ weight_of word.now }
 {
@@ -74,7 +74,7 @@ fn weight_of(word: &str) -> Option<usize>
     }
 }
 
-/// What a command and one word behind it ask for, if anything: a weight, or else a cap.
+/// The request of a command and one word: a weight, or else a cap.
 fn with_setting(command: Command, word: &str) -> Option<Request>
     ensures { result ≡ setting_of command word.now (weight_of word.now) }
 {
@@ -92,7 +92,7 @@ fn with_setting(command: Command, word: &str) -> Option<Request>
     }
 }
 
-/// What a command, a cap and a weight ask for, if the words write these.
+/// The request of a command, a cap and a weight.
 fn with_settings(command: Command, cap: &str, weight: &str) -> Option<Request>
     ensures { result ≡ settings_of command cap.now weight.now }
 {
@@ -103,7 +103,7 @@ fn with_settings(command: Command, cap: &str, weight: &str) -> Option<Request>
     })
 }
 
-/// What a word by itself asks for, if anything.
+/// The request of a single word.
 fn word_request(word: &str) -> Option<Request>
     ensures { result ≡ word_request word.now }
 {
@@ -124,7 +124,7 @@ fn word_request(word: &str) -> Option<Request>
     })
 }
 
-/// What these words, the program's name not among them, ask for; nothing where they aren't known.
+/// The request of these words, which don't include the program's name; `None` if there is no such request.
 pub fn request_of(words: &[String]) -> Option<Request>
     ensures { result ≡ request_of (map string_bytes words.now) }
 {

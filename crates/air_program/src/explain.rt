@@ -1,4 +1,5 @@
-//! The answer to the word `explain`: what the audit of a JSON object finds, and below each failure what stands there.
+//! The answer to the word `explain`: the findings of the audit of a JSON object, with an explanation below each
+//! failure.
 
 ghost use Rattle.std.specs.Prelude.{◌≡◌, ◌<◌, ◌≤◌, ◌-◌, ◌⊎◌, ◌++◌, ◌∷◌, [], length, map, All, IfOk, IfErr, IfSome, OnOk, slice_get, string_bytes};
 ghost use Rattle.air_field.specs.Assignment.{row_assignment};
@@ -32,14 +33,14 @@ use air_print::{
 use air_symbolic::{BaseLeaf, reached_nodes};
 use std::alloc::{AllocError, Global};
 
-/// A row, and the values that the expressions have there.
+/// A row, and the values of the expressions there.
 #[derive(Drop)]
 pub(crate) struct RowValues<F: PrimeField64> {
     pub(crate) row: usize,
     pub(crate) values: Vec<F>,
 }
 
-// The values at a row: those at hand, if they are of this row.
+// The values at a row: the cached ones, if they are of this row.
 fn at_row<F: PrimeField64>(
     alloc: Global,
     pool: &BasePool<F>,
@@ -65,7 +66,7 @@ fn at_row<F: PrimeField64>(
     Ok(RowValues { row, values })
 }
 
-// The constraints at the places of the failures.
+// The roots of the failures' constraints.
 fn failing_roots<F: PrimeField64>(
     alloc: Global,
     roots: &[BaseId<F>],
@@ -83,7 +84,7 @@ fn failing_roots<F: PrimeField64>(
     Ok(failing)
 }
 
-// Adds the line of the cell that the failure is of, if there is such a cell.
+// Appends the line of the failure's boundary value, if there is one.
 fn push_cell_below<F: PrimeField64>(
     text: &mut String,
     air: &FlatAir<F>,
@@ -101,7 +102,7 @@ fn push_cell_below<F: PrimeField64>(
     }
 }
 
-// Adds a failure, and below it what stands there. Of the values at hand the last ones are answered.
+// Appends a failure and its explanation. Answers the values to cache for the next failure.
 fn push_explained_failure<F: PrimeField64>(
     alloc: Global,
     text: &mut String,
@@ -136,7 +137,7 @@ fn push_explained_failure<F: PrimeField64>(
     Ok(Some(at))
 }
 
-// Adds each failure, and below it what stands there.
+// Appends each failure and its explanation.
 fn push_failures<F: PrimeField64>(
     alloc: Global,
     text: &mut String,
@@ -159,7 +160,7 @@ fn push_failures<F: PrimeField64>(
     Ok(())
 }
 
-// Adds a line for each name that a failing constraint reaches.
+// Appends the definition of each name that a failing constraint reaches.
 fn push_names<F: PrimeField64>(
     alloc: Global,
     text: &mut String,
@@ -178,7 +179,7 @@ fn push_names<F: PrimeField64>(
     push_reached_definitions(alloc, text, &air.pool, names, &marks)
 }
 
-// The lines of what was found, explained.
+// The lines of the findings, explained.
 fn explained_text<F: PrimeField64>(
     alloc: Global,
     air: &FlatAir<F>,
@@ -197,7 +198,7 @@ fn explained_text<F: PrimeField64>(
     Ok(text)
 }
 
-/// The status and the text of what was found, explained.
+/// The status and the text of the findings, explained.
 fn explain_findings<F: PrimeField64>(
     alloc: Global,
     air: &FlatAir<F>,
@@ -223,7 +224,7 @@ fn explain_findings<F: PrimeField64>(
     }
 }
 
-// Audits that the roots are zero on the trace, and explains where they aren't.
+// Audits the input, and explains its failures.
 fn explain_input<F: PrimeField64 + 'static>(
     alloc: Global,
     input: FlatInput<F>,
@@ -254,7 +255,7 @@ fn explain_input<F: PrimeField64 + 'static>(
     explain_findings(alloc, &air, &input.main, &input.public_values, &findings)
 }
 
-/// The status and the text of what that audit finds, explained.
+/// The status and the text of such an audit's findings, explained, for an object over F with these parts.
 pub(crate) fn explain_parts<F: PrimeField64 + 'static>(
     alloc: Global,
     parts: Parts<F>,

@@ -1,4 +1,4 @@
-//! What an audit finds of a JSON object: an AIR whose constraints are lists of nodes, and a trace of it.
+//! The audit of a JSON object: an AIR whose constraints are lists of nodes, and its trace.
 
 ghost use Rattle.std.specs.Prelude.{◌≡◌, ◌<◌, All, None, IfOk, IfErr};
 ghost use Rattle.air_symbolic.specs.Pools.{size};
@@ -18,7 +18,7 @@ use air_field::{Field, PrimeField64, RowMajorMatrix};
 use air_object::{FlatInput, Parts, input_from};
 use std::alloc::Global;
 
-/// An AIR without a preprocessed table, and with this one, if there is one.
+/// The AIR, which has no preprocessed trace, with this one, if there is one.
 pub(crate) fn with_table<F: Field>(air: FlatAir<F>, table: Option<RowMajorMatrix<F>>) -> FlatAir<F>
     requires { air.preprocessed ≡ None }
     ensures pool { result.pool ≡ air.pool }
@@ -35,7 +35,7 @@ pub(crate) fn with_table<F: Field>(air: FlatAir<F>, table: Option<RowMajorMatrix
     }
 }
 
-/// Audits that the roots are zero on the trace.
+/// Audits the AIR of an input, each of whose roots must be zero, on its trace.
 fn audit_input<F: PrimeField64 + 'static>(
     alloc: Global,
     input: FlatInput<F>,
@@ -65,7 +65,7 @@ fn audit_input<F: PrimeField64 + 'static>(
     )
 }
 
-/// The status and the text of what an audit of an object over F finds whose parts these are.
+/// The status and the text of the findings of an audit of an object over F with these parts.
 pub(crate) fn audit_parts<F: PrimeField64 + 'static>(
     alloc: Global,
     parts: Parts<F>,

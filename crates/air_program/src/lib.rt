@@ -1,4 +1,4 @@
-//! What the program does: its words, its input and its answers.
+//! The program: its words, its input and its answers.
 #![tactic(auto)]
 
 mod answer;

@@ -13,8 +13,8 @@ use crate::refusals::Refusal;
 use air_streams::{ReadFault, Sink, Source, StreamFault, read_all, write_all};
 use std::alloc::Global;
 
-/// Writes the line of a refusal, in pieces, since there may be no memory for it, and answers the status 2; an `Err`
-/// exactly where the writer fails. The writer mustn't have failed before.
+/// Writes the line of a refusal, in pieces, so that the line needs no memory, and answers the status 2; answers an
+/// `Err` exactly if the writer fails. The writer must not have failed before.
 pub fn refuse<W: Sink>(writer: &mut W, why: Refusal) -> Result<u8, StreamFault>
     requires { W.has_failed writer.old ≡ false }
     ensures status { IfOk result (λ status. status ≡ 2) }
@@ -28,8 +28,8 @@ pub fn refuse<W: Sink>(writer: &mut W, why: Refusal) -> Result<u8, StreamFault>
     Ok(2)
 }
 
-/// Judges the words, reads the whole input where they are known, writes the answer to it, and answers the exit status;
-/// an `Err` exactly where the writer fails. Neither stream may have failed before.
+/// Checks the words, reads the whole input if they are a request, writes the answer, and returns the exit status; an
+/// `Err` exactly if the writer fails. Neither stream may have failed before.
 pub fn run<R: Source, W: Sink>(
     alloc: Global,
     words: &[String],

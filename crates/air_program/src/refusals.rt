@@ -12,16 +12,16 @@ pub enum Refusal {
     Read,
     Memory,
     Syntax,
-    /// The input is no JSON value.
+    /// The input is not a JSON value.
     Json,
     /// The object's member `field` names no field.
     Field,
-    /// What the reading of a JSON value refuses, or the audit; its name is that of this refusal.
+    /// An error of reading a JSON value, or of the audit; the refusal has the error's name.
     Air(AirError),
 }
 
 impl Refusal {
-    /// The name in the line that is written.
+    /// The name in the line of a refusal.
     pub fn name(self) -> &'static str
         ensures { result.now ≡ name_of self }
     {
@@ -48,7 +48,7 @@ impl From<AirError> for Refusal {
     }
 }
 
-/// The name of the refusal's variant.
+/// The name of the error's variant.
 fn air_name(error: AirError) -> &'static str
     ensures { result.now ≡ air_name error }
 {

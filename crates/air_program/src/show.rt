@@ -1,4 +1,4 @@
-//! The answer to the word `show`: the constraints of a JSON object, with their labels, as people read them.
+//! The answer to the word `show`: the constraints of a JSON object, with their labels, in infix notation.
 
 ghost use Rattle.std.specs.Prelude.{◌≡◌, ◌<◌, map, All, IfOk, IfErr, string_bytes};
 ghost use Rattle.air_symbolic.specs.Pools.{size};
@@ -34,7 +34,7 @@ fn show_roots<F: PrimeField64>(
     }
 }
 
-/// The status and the text that show the constraints, with their labels, of an object over F whose parts these are; or the
+/// The status and the text that show the constraints, with their labels, of an object over F with these parts; or the
 /// first fault of these two members.
 pub(crate) fn show_parts<F: PrimeField64 + 'static>(
     alloc: Global,

@@ -1,4 +1,4 @@
-//! The text of what was found.
+//! The text of an audit's findings.
 
 ghost use Rattle.std.specs.Prelude.{◌≡◌, ◌++◌, OnOk, IfOk, IfSome, option_map, string_bytes};
 ghost use Rattle.air_report.specs.FailureTexts.{label_suffix, seen_failure};
@@ -10,14 +10,14 @@ use air_audit::{ConstraintFailure, ConstraintReport};
 use air_print::shown_label;
 use std::alloc::{AllocError, Global};
 
-/// What an audit found.
+/// The findings of an audit.
 #[derive(Drop)]
 pub struct Findings {
     pub degree: usize,
     pub report: ConstraintReport,
 }
 
-/// Adds the lines of the three counts.
+/// Appends the lines of the three counts.
 #[tactic(auto, unfolding(crate::specs::Texts::count_lines))]
 pub(crate) fn push_counts(text: &mut String, findings: &Findings) -> Result<(), AllocError>
     ensures { OnOk result (string_bytes text.new ≡ string_bytes text.old ++ lines_text
@@ -31,7 +31,7 @@ pub(crate) fn push_counts(text: &mut String, findings: &Findings) -> Result<(), 
     writeln!(text, "constraints {constraints}")
 }
 
-/// What stands behind a failure's place: nothing, or what its label shows as.
+/// The text after a failure's place: the shown label, if there is one.
 fn text_behind(alloc: Global, label: &Option<String>) -> Result<String, AllocError>
     ensures one_line { IfOk result (λ text. HasNoLineEnd (string_bytes text)) }
     ensures shown { IfOk result (λ text. IfSome (label_suffix (option_map string_bytes label.now))
@@ -43,7 +43,7 @@ fn text_behind(alloc: Global, label: &Option<String>) -> Result<String, AllocErr
     }
 }
 
-/// Adds the line of a failure.
+/// Appends the line of a failure.
 #[tactic(auto, unfolding(crate::specs::Texts::place_text))]
 pub(crate) fn push_failure(
     alloc: Global,

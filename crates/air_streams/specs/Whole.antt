@@ -1,4 +1,4 @@
--- How a reading ended.
+-- How a reading ends.
 use Rattle.std.specs.Prelude.{Bool, true, false, Result, Ok, Err}
 use Rattle.air_streams.specs.declared.whole.ReadFault.{ReadFault}
 use Rattle.air_streams.specs.declared.whole.ReadFault.TheVariants as faults

@@ -5,7 +5,7 @@ ghost use Rattle.std.specs.Prelude.{◌≡◌, false};
 use crate::stream::{Sink, Source, StreamFault};
 use std::io::{ErrorKind, Read, Write};
 
-/// A reader as a source. A read that a signal interrupts is tried again.
+/// A reader as a source. A read that a signal interrupts is repeated.
 #[derive(Drop)]
 pub struct ReadSource<R> {
     inner: R,
@@ -13,7 +13,7 @@ pub struct ReadSource<R> {
 }
 
 impl<R: Read> ReadSource<R> {
-    /// A source that gives what the reader has left.
+    /// A source of the reader's remaining bytes.
     pub fn new(inner: R) -> ReadSource<R>
         ensures remaining { ⟦<ReadSource<R> as Source>⟧.remaining result ≡ R.remaining inner }
         ensures failed { ⟦<ReadSource<R> as Source>⟧.has_failed result ≡ false }
@@ -47,7 +47,7 @@ impl<R: Read> Source for ReadSource<R> {
     }
 }
 
-/// A writer as a sink, which takes a piece whole.
+/// A writer as a sink, which accepts each piece completely.
 #[derive(Drop)]
 pub struct WriteSink<W> {
     inner: W,
@@ -55,7 +55,7 @@ pub struct WriteSink<W> {
 }
 
 impl<W: Write> WriteSink<W> {
-    /// A sink that adds to what the writer holds.
+    /// A sink that appends to the writer's contents.
     pub fn new(inner: W) -> WriteSink<W>
         ensures contents { ⟦<WriteSink<W> as Sink>⟧.contents result ≡ W.contents inner }
         ensures failed { ⟦<WriteSink<W> as Sink>⟧.has_failed result ≡ false }
@@ -73,7 +73,7 @@ impl<W: Write> Sink for WriteSink<W> {
     ghost has_failed = { λ s. s.failed };
 
     fn push(&mut self, bytes: &[u8]) -> Result<usize, StreamFault> {
-        // What a buffering writer holds back is out only once it is flushed.
+        // A buffering writer may hold bytes back until it is flushed.
         if self.inner.write_all(bytes).is_err() || self.inner.flush().is_err() {
             self.failed = true;
             return Err(StreamFault);

@@ -1,4 +1,4 @@
-//! Where bytes come from, where they go, and whole inputs and texts over such streams.
+//! Sources and sinks of bytes, and reading whole inputs and writing whole texts over them.
 #![tactic(auto)]
 
 mod adapters;

@@ -7,15 +7,15 @@ ghost use Rattle.std.specs.Io.KnownBytes.{Consumes, Appends, IsAtEnd};
 #[derive(Clone, Copy, Debug, PartialEq, Eq, Drop)]
 pub struct StreamFault;
 
-/// Gives bytes, piece after piece, up to its end.
+/// A stream of bytes to read, in pieces, up to its end.
 pub trait Source {
-    // The bytes that pulls will give from here on, where the source tells them.
+    // The bytes that further pulls will give, if the source specifies them.
     ghost remaining: { Self → Option (List ℕ) };
 
     // A call has answered an `Err`.
     ghost has_failed: { Self → Bool };
 
-    /// Fills the front of `buf`, which mustn't be empty, and answers how many bytes it filled: 0 only at the end.
+    /// Fills the front of `buf`, which must not be empty, and answers how many bytes it filled: 0 only at the end.
     fn pull(&mut self, buf: &mut [u8]) -> Result<usize, StreamFault>
         requires { 0 < length buf.old }
         ensures bound { IfOk result (λ count. count ≤ length buf.new) }
@@ -30,15 +30,15 @@ pub trait Source {
         ensures { result ≡ has_failed self.now };
 }
 
-/// Takes bytes, piece after piece.
+/// A stream of bytes to write, in pieces.
 pub trait Sink {
-    // The bytes that the sink holds, where it tells them.
+    // The bytes that the sink holds, if the sink specifies them.
     ghost contents: { Self → Option (List ℕ) };
 
     // A call has answered an `Err`.
     ghost has_failed: { Self → Bool };
 
-    /// Takes bytes from the front, and answers how many: at least one, where there is one.
+    /// Takes bytes from the front of `bytes`, and answers how many: at least one, unless `bytes` is empty.
     fn push(&mut self, bytes: &[u8]) -> Result<usize, StreamFault>
         ensures bound { IfOk result (λ count. count ≤ length bytes.now) }
         ensures some { IfOk result (λ count. 0 < length bytes.now → 0 < count) }

@@ -1,4 +1,4 @@
-//! Whole inputs and whole texts over streams that move pieces.
+//! Reading whole inputs and writing whole texts, over streams that move them in pieces.
 
 ghost use Rattle.std.specs.Prelude.{◌≡◌, false, IfOk, OnOk, is_err};
 ghost use Rattle.std.specs.Io.KnownBytes.{Consumes, Appends, IsAtEnd};
@@ -14,7 +14,7 @@ pub enum ReadFault {
     Memory,
 }
 
-/// All bytes up to a pull that answers 0. A source without an end runs into `Memory`. The source mustn't have failed
+/// All bytes up to a pull that answers 0. A source without an end leads to `Memory`. The source must not have failed
 /// before.
 pub fn read_all<R: Source>(alloc: Global, reader: &mut R) -> Result<Vec<u8>, ReadFault>
     requires { R.has_failed reader.old ≡ false }
@@ -38,7 +38,7 @@ pub fn read_all<R: Source>(alloc: Global, reader: &mut R) -> Result<Vec<u8>, Rea
     }
 }
 
-/// Writes all bytes, in as many pieces as the sink wants. The sink mustn't have failed before.
+/// Writes all bytes, in as many pieces as the sink needs. The sink must not have failed before.
 pub fn write_all<W: Sink>(writer: &mut W, text: &[u8]) -> Result<(), StreamFault>
     requires { W.has_failed writer.old ≡ false }
     ensures ok { OnOk result (Appends (W.contents writer.old) (W.contents writer.new) text.now) }

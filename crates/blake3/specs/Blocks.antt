@@ -1,9 +1,9 @@
--- The words that the code takes, as those of the definition.
+-- The steps and the arguments of the code, in the words of the definition.
 use Rattle.std.specs.Prelude.{ℕ, ◌+◌, List, [], ◌∷◌, slice_index}
 use Rattle.blake3.specs.Compression.{Block, half_mix, place_in}
 use Rattle.blake3.specs.declared.words.State.{State}
 
--- the first half of G of each column, and the second
+-- the first half of G on each column, and the second half
 abbrev pub columns_half : State → (ℕ → ℕ) → State
 columns_half v m = record {
   q0 = half_mix 16 12 v.q0 (m 0);
@@ -20,7 +20,7 @@ columns_whole v m = record {
   q3 = half_mix 8 7 v.q3 (m 7);
 }
 
--- the words that a round takes of a message, and those at eight places from one on
+-- the words of a message in the order of a round, and eight of them from an index on
 abbrev pub word_of_round : List ℕ → ℕ → ℕ → ℕ
 word_of_round message r i = slice_index message (place_in r i)
 
@@ -29,7 +29,7 @@ eight_at message r from =
     word_of_round message r (from + 0) ∷ word_of_round message r (from + 1) ∷ word_of_round message r (from + 2) ∷ word_of_round message r (from + 3) ∷
     word_of_round message r (from + 4) ∷ word_of_round message r (from + 5) ∷ word_of_round message r (from + 6) ∷ word_of_round message r (from + 7) ∷ []
 
--- the block of a chaining value, a message, and the two halves of the counter, the length and the flags
+-- a block from a chaining value, a message, and the rest: the two halves of the counter, the length and the flags
 abbrev pub block_of : List ℕ → List ℕ → List ℕ → Block
 block_of chaining message rest = record {
   chaining = slice_index chaining;

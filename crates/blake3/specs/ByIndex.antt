@@ -11,7 +11,7 @@ words v =
     v.q0.c ∷ v.q1.c ∷ v.q2.c ∷ v.q3.c ∷
     v.q0.d ∷ v.q1.d ∷ v.q2.d ∷ v.q3.d ∷ []
 
--- G of the words at four indices, with two words of the message
+-- G on the words at four indices, with two words of the message
 abbrev pub mixed_at : ℕ → ℕ → ℕ → ℕ → ℕ → ℕ → List ℕ → List ℕ
 mixed_at a b c d m n v =
     let q = mix (record { a = slice_index v a; b = slice_index v b; c = slice_index v c; d = slice_index v d }) m n in
@@ -29,12 +29,12 @@ diagonals_by_index m v =
 abbrev pub round_by_index : List ℕ → (ℕ → ℕ) → List ℕ
 round_by_index v m = diagonals_by_index m (columns_by_index m v)
 
--- the words after so many rounds
+-- the words after r rounds
 abbrev pub rounds_by_index : List ℕ → (ℕ → ℕ) → ℕ → List ℕ
 rounds_by_index v m zero = v
 rounds_by_index v m (suc r) = round_by_index (rounds_by_index v m r) (λ i. m (place_in r i))
 
--- word i less than eight: v_i xor v_(i + 8); the others: v_i xor the chaining value's
+-- word i: v_i xor v_(i + 8) for i below 8, otherwise v_i xor word i - 8 of the chaining value
 abbrev pub output_by_index : List ℕ → (ℕ → ℕ) → List ℕ
 output_by_index v h =
     bit_xor (slice_index v 8) (slice_index v 0) ∷ bit_xor (slice_index v 9) (slice_index v 1) ∷

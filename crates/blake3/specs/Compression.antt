@@ -1,4 +1,4 @@
--- BLAKE3's compression function on words of 32 bits, which are numbers below 2^32.
+-- BLAKE3's compression function on words of 32 bits, as numbers below 2^32.
 use Rattle.std.specs.Prelude.{ℕ, zero, suc, ◌+◌, ◌%◌, ◌^◌, List, [], ◌∷◌, bit_xor, slice_index}
 use Rattle.std.specs.Int.{w32, rotate_right}
 use Rattle.blake3.specs.declared.words.Quarter.{Quarter}
@@ -17,7 +17,7 @@ half_mix j k q m =
 unfoldable pub mix : Quarter → ℕ → ℕ → Quarter
 mix q m n = half_mix 8 7 (half_mix 16 12 q m) n
 
--- G of each column of a state, with eight words of the message
+-- G on each column of a state, with eight words of the message
 abbrev pub columns_mixed : State → (ℕ → ℕ) → State
 columns_mixed v m = record {
   q0 = mix v.q0 (m 0) (m 1);
@@ -47,21 +47,21 @@ from_diagonals v = record {
 unfoldable pub round : State → (ℕ → ℕ) → State
 round v m = from_diagonals (columns_mixed (diagonals (columns_mixed v m)) (λ i. m (8 + i)))
 
--- the places that the words of the message take from one round to the next
+-- the permutation of the message's words from one round to the next
 abbrev pub permutation : List ℕ
 permutation = 2 ∷ 6 ∷ 3 ∷ 10 ∷ 7 ∷ 0 ∷ 4 ∷ 13 ∷ 1 ∷ 11 ∷ 12 ∷ 5 ∷ 9 ∷ 14 ∷ 15 ∷ 8 ∷ []
 
--- the place, in the message, of the word that round r takes at a place
+-- the index in the message of the word that round r uses at index i
 unfoldable pub place_in : ℕ → ℕ → ℕ
 place_in zero i = i
 place_in (suc r) i = place_in r (slice_index permutation i)
 
--- the state after so many rounds
+-- the state after r rounds
 unfoldable pub after_rounds : State → (ℕ → ℕ) → ℕ → State
 after_rounds v m zero = v
 after_rounds v m (suc r) = round (after_rounds v m r) (λ i. m (place_in r i))
 
--- What is compressed: the chaining value, the message, the counter, the length of the block and the flags.
+-- The input of a compression: the chaining value, the message, the counter, the length of the block and the flags.
 pub record Block : Type 0 where
   pub chaining : ℕ → ℕ
   pub message : ℕ → ℕ
@@ -79,7 +79,7 @@ first_state b = record {
   q3 = record { a = b.chaining 3; b = b.chaining 7; c = 0xA54FF53A; d = b.flags };
 }
 
--- of a column of the last state, and two words of the chaining value: the four words of the output at its places
+-- four words of the output, from a column of the last state and two words of the chaining value
 abbrev pub output_column : Quarter → ℕ → ℕ → Quarter
 output_column q low high = record {
   a = bit_xor q.c q.a;
@@ -88,7 +88,7 @@ output_column q low high = record {
   d = bit_xor q.d high;
 }
 
--- the output of the last state and a chaining value, in four columns
+-- the output, in four columns, from the last state and the chaining value
 abbrev pub outputs : State → (ℕ → ℕ) → State
 outputs v h = record {
   q0 = output_column v.q0 (h 0) (h 4);

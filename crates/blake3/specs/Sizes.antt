@@ -4,7 +4,7 @@ use Rattle.blake3.specs.Compression.{Block}
 use Rattle.blake3.specs.declared.words.Quarter.{Quarter}
 use Rattle.blake3.specs.declared.words.State.{State}
 
--- all four words are, and all sixteen
+-- the four words of a column are below 2^32, and all sixteen of a state
 pub record AreWords (q : Quarter) : Type 0 where
   pub a : q.a < 2 ^ 32
   pub b : q.b < 2 ^ 32
@@ -17,7 +17,7 @@ pub record AreStateWords (v : State) : Type 0 where
   pub q2 : AreWords v.q2
   pub q3 : AreWords v.q3
 
--- all words of the block are
+-- all words of the block are below 2^32
 pub record AreBlockWords (b : Block) : Type 0 where
   pub chaining : (i : ℕ) → b.chaining i < 2 ^ 32
   pub message : (i : ℕ) → b.message i < 2 ^ 32

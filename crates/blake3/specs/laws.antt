@@ -1,4 +1,4 @@
--- Laws of what specs/ defines.
+-- Laws of the definitions in specs/.
 pub mod ByIndex
 pub mod Places
 pub mod Sizes

@@ -1,10 +1,10 @@
-//! The blocks of a message of one chunk, which has at most 1,024 bytes.
+//! The blocks of a message of one chunk, at most 1,024 bytes.
 ghost use Rattle.std.specs.Prelude.{◌≡◌, ◌+◌, ◌*◌, ◌<◌, ◌≤◌, ◌^◌, suc};
 ghost use Rattle.blake3.specs.Hashing.{block_count, block_flags, block_length, byte_at, first_words, start_words, word_of_bytes, words_at};
 
 use crate::words::State;
 
-/// The chaining value of a first block.
+/// The chaining value of the first block.
 pub fn start_words() -> [u32; 8]
     ensures { result ≡ start_words }
 {
@@ -14,7 +14,7 @@ pub fn start_words() -> [u32; 8]
     ]
 }
 
-/// The byte at a place, zero past the end.
+/// The byte at an index, zero past the end.
 fn byte_at(message: &[u8], at: usize) -> u32
     ensures is { result ≡ byte_at message.now at }
     ensures small { result < 2 ^ 8 }
@@ -25,7 +25,7 @@ fn byte_at(message: &[u8], at: usize) -> u32
     }
 }
 
-/// Four bytes as a word, the lowest first.
+/// Four bytes as a little-endian word.
 fn word_at(message: &[u8], at: usize) -> u32
     requires { at ≤ 2 ^ 16 }
     ensures { result ≡ word_of_bytes message.now at }
@@ -36,7 +36,7 @@ fn word_at(message: &[u8], at: usize) -> u32
         + 16777216 * byte_at(message, at + 3)
 }
 
-/// The sixteen words of a block, which begins at a byte. Past the message's end bytes are zero.
+/// The sixteen words of the block that begins at a byte. Bytes past the message's end are zero.
 pub fn words_at(message: &[u8], at: usize) -> [u32; 16]
     requires { at ≤ 2 ^ 12 }
     ensures { result ≡ words_at message.now at }
@@ -61,14 +61,14 @@ pub fn words_at(message: &[u8], at: usize) -> [u32; 16]
     ]
 }
 
-/// How many blocks there are of so many bytes: one at least.
+/// The number of blocks in a message of this many bytes, at least one.
 pub fn count_of_blocks(bytes: usize) -> usize
     ensures { result ≡ block_count bytes }
 {
     bytes.saturating_sub(1) / 64 + 1
 }
 
-/// How many bytes a block has, which is one of the blocks of so many.
+/// The number of bytes in this block of a message.
 pub fn length_of_block(bytes: usize, block: usize) -> u32
     requires bytes { bytes ≤ 2 ^ 10 }
     requires block { block < block_count bytes }
@@ -81,7 +81,7 @@ pub fn length_of_block(bytes: usize, block: usize) -> u32
     }
 }
 
-/// Its flags: 1 for the first, and for the last 2 for the end of the chunk and 8 for the root.
+/// The block's flags: 1 for the first, and for the last one 2 for the end of the chunk and 8 for the root.
 pub fn flags_of_block(bytes: usize, block: usize) -> u32
     requires { block ≤ 2 ^ 10 }
     ensures { result ≡ block_flags bytes block }

@@ -7,7 +7,8 @@ use crate::messages::eight_words;
 use crate::mixing::{columns_half, columns_whole};
 use crate::words::{Quarter, State};
 
-/// The state before the rounds, of the chaining value, and the two halves of the counter, the length and the flags.
+/// The state before the rounds, from the chaining value, and from `rest`: the two halves of the counter, the length and
+/// the flags.
 pub fn first_state(chaining: &[u32; 8], message: &[u32; 16], rest: &[u32; 4]) -> State
     ensures { result ≡ first_state (block_of chaining.now message.now rest.now) }
 {
@@ -39,7 +40,7 @@ pub fn first_state(chaining: &[u32; 8], message: &[u32; 16], rest: &[u32; 4]) ->
     }
 }
 
-/// The state after a round, of that before it.
+/// The state after a round, from the state before it.
 pub fn round(v: State, message: &[u32; 16], turn: usize) -> State
     ensures { result ≡ round v (word_of_round message.now turn) }
 {
@@ -61,7 +62,7 @@ fn output_column(q: Quarter, low: u32, high: u32) -> Quarter
     }
 }
 
-/// The sixteen words of the output, of the last state and the chaining value.
+/// The sixteen words of the output, from the last state and the chaining value.
 pub fn outputs(v: State, chaining: &[u32; 8]) -> State
     ensures { result ≡ outputs v (slice_index chaining.now) }
 {
@@ -74,8 +75,8 @@ pub fn outputs(v: State, chaining: &[u32; 8]) -> State
 }
 
 /// The compression of a chaining value and a message, with the two halves of the counter, the length of the block and
-/// the flags. A digest of a message of one block is the first eight words of the output: those named a, column by
-/// column, and then those named b.
+/// the flags in `rest`. The digest of a message of one block is the first eight words of the output: the four words a,
+/// column by column, and then the four words b.
 pub fn compress(chaining: &[u32; 8], message: &[u32; 16], rest: &[u32; 4]) -> State
     ensures { result ≡ compress (block_of chaining.now message.now rest.now) }
 {

@@ -8,7 +8,7 @@ use crate::chunks::{
 };
 use crate::compression::compress;
 
-/// The chaining value after a block, of that before it.
+/// The chaining value after a block, from the one before it.
 fn next_chaining(message: &[u8], block: usize, chaining: &[u32; 8]) -> [u32; 8]
     requires bytes { length message.now ≤ 2 ^ 10 }
     requires block { block < block_count (length message.now) }
@@ -25,7 +25,7 @@ fn next_chaining(message: &[u8], block: usize, chaining: &[u32; 8]) -> [u32; 8]
     first_words(compress(chaining, &words, &rest))
 }
 
-/// The digest of a message of at most 1,024 bytes: eight words, each of four bytes, the lowest first.
+/// The digest of a message of at most 1,024 bytes: eight words, each of four bytes, little-endian.
 pub fn hash(message: &[u8]) -> [u32; 8]
     requires { length message.now ≤ 2 ^ 10 }
     ensures { result ≡ hash message.now }

@@ -1,4 +1,4 @@
-//! BLAKE3's compression function: its definition over words, and code that computes it.
+//! BLAKE3's compression function and the hash of one chunk: their definitions over words, and code that computes them.
 #![tactic(auto)]
 
 pub mod chunks;

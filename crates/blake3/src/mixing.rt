@@ -18,7 +18,7 @@ pub fn half_mix(j: u32, k: u32, q: Quarter, m: u32) -> Quarter
     Quarter { a, b, c, d }
 }
 
-/// The first half of G of each column, with four of eight words of the message.
+/// The first half of G on each column, with four of eight words of the message.
 pub fn columns_half(v: State, m: &[u32; 8]) -> State
     ensures { result ≡ columns_half v (slice_index m.now) }
 {
@@ -30,7 +30,7 @@ pub fn columns_half(v: State, m: &[u32; 8]) -> State
     }
 }
 
-/// The second half, with the other four.
+/// The second half of G on each column, with the other four words.
 pub fn columns_whole(v: State, m: &[u32; 8]) -> State
     ensures { result ≡ columns_whole v (slice_index m.now) }
 {

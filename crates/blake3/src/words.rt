@@ -2,7 +2,7 @@
 ghost use Rattle.std.specs.Prelude.{◌≡◌};
 ghost use Rattle.blake3.specs.Compression.{diagonals, from_diagonals};
 
-/// Four of them: of column k the words v_k, v_(4 + k), v_(8 + k) and v_(12 + k).
+/// Four of the words: column k has v_k, v_(4 + k), v_(8 + k) and v_(12 + k).
 #[derive(Clone, Copy, Drop)]
 pub struct Quarter {
     pub a: u32,
@@ -11,7 +11,7 @@ pub struct Quarter {
     pub d: u32,
 }
 
-/// All, in four columns.
+/// All sixteen words, in four columns.
 #[derive(Clone, Copy, Drop)]
 pub struct State {
     pub q0: Quarter,
@@ -20,7 +20,7 @@ pub struct State {
     pub q3: Quarter,
 }
 
-/// The four words.
+/// A column of four words.
 fn four_words(a: u32, b: u32, c: u32, d: u32) -> Quarter
     ensures { result ≡ record { a = a; b = b; c = c; d = d } }
 {

@@ -1,5 +1,5 @@
-//! Digests of messages; and two of one block each as the rows of a trace: the digests that they hold, and what an audit
-//! of the trace finds, as it is and with two cells spoilt.
+//! Prints the digests of messages; and, for two messages of one block each as the rows of a trace, the digests in the
+//! rows and the findings of an audit, without changes and with two cells changed.
 #![tactic(auto)]
 
 ghost use Rattle.std.specs.Prelude.{◌≤◌, ◌^◌};
@@ -12,10 +12,10 @@ use p3_air::{
 use std::alloc::Global;
 use std::io;
 
-/// The flags of a block that is the first and the last of a message of one chunk.
+/// The flags of a block that is the only one of its message.
 const WHOLE: u32 = 11;
 
-/// Adds the row of a message of one block, so many bytes long.
+/// Pushes the row of a message of one block with this length in bytes.
 fn push_row(
     alloc: Global,
     values: &mut Vec<BabyBear>,
@@ -32,7 +32,7 @@ fn push_row(
     Ok(())
 }
 
-/// The values of two rows: of the empty message, and of "abc".
+/// The values of two rows, for the empty message and for "abc".
 fn values_of_two(alloc: Global) -> Result<Vec<BabyBear>, AirError> {
     let mut message = [0; 16];
     let mut values = Vec::new(alloc);
@@ -42,7 +42,7 @@ fn values_of_two(alloc: Global) -> Result<Vec<BabyBear>, AirError> {
     Ok(values)
 }
 
-/// The word whose bits begin at a column of a row; what is no bit counts as zero.
+/// The word whose bits begin at a column of a row; any value other than one is read as zero.
 fn word_at(trace: &RowMajorMatrix<BabyBear>, row: usize, first: usize) -> u32
     requires { first ≤ 2 ^ 16 }
 {
@@ -57,7 +57,7 @@ fn word_at(trace: &RowMajorMatrix<BabyBear>, row: usize, first: usize) -> u32
     word
 }
 
-/// Eight words, the lowest byte of each first.
+/// Prints eight words, each little-endian.
 fn show_words(rt: HostRuntime, words: [u32; 8]) -> io::Result<()> {
     for word in words {
         print!(rt; "{:08x}", word.swap_bytes())?;
@@ -65,7 +65,7 @@ fn show_words(rt: HostRuntime, words: [u32; 8]) -> io::Result<()> {
     println!(rt; "")
 }
 
-/// The digest that the columns named output hold.
+/// Prints the digest in the output columns.
 fn show_digest(rt: HostRuntime, trace: &RowMajorMatrix<BabyBear>, row: usize) -> io::Result<()> {
     let mut words = [0; 8];
     for index in 0usize..8 {
@@ -74,7 +74,7 @@ fn show_digest(rt: HostRuntime, trace: &RowMajorMatrix<BabyBear>, row: usize) ->
     show_words(rt, words)
 }
 
-/// What an audit finds: the degree, and the report.
+/// The findings of an audit: the degree and the report.
 fn audit_trace(
     alloc: Global,
     trace: &RowMajorMatrix<BabyBear>,
@@ -83,7 +83,7 @@ fn audit_trace(
     Ok((audit.degree, audit.report))
 }
 
-/// A line for each count, and for each failure.
+/// Prints a line for each count and for each failure.
 fn show_audit(rt: HostRuntime, trace: &RowMajorMatrix<BabyBear>) -> io::Result<()> {
     match audit_trace(rt.alloc(), trace) {
         Ok((degree, report)) => {
@@ -100,7 +100,8 @@ fn show_audit(rt: HostRuntime, trace: &RowMajorMatrix<BabyBear>) -> io::Result<(
     }
 }
 
-/// Two cells spoilt: the lowest bit of the second row's output word 0, and a limb of the first round of the first row.
+/// Changes two cells: the lowest bit of output word 0 in the second row, and a limb of the first round in the first
+/// row.
 fn spoil(values: &mut Vec<BabyBear>) {
     if let Some(value) = values.get_mut(9168 + 8656) {
         *value = BabyBear::ONE.sub(*value);
@@ -110,7 +111,7 @@ fn spoil(values: &mut Vec<BabyBear>) {
     }
 }
 
-/// The trace of both rows, spoilt or not.
+/// The trace of both rows, with or without the changes.
 fn trace_of_two(alloc: Global, is_spoilt: bool) -> Result<RowMajorMatrix<BabyBear>, AirError> {
     let mut values = values_of_two(alloc)?;
     if is_spoilt {
@@ -119,7 +120,7 @@ fn trace_of_two(alloc: Global, is_spoilt: bool) -> Result<RowMajorMatrix<BabyBea
     Ok(RowMajorMatrix::new(values, 9168)?)
 }
 
-/// The message of so many bytes, byte i being i modulo 251.
+/// The message of `count` bytes, where byte i is i modulo 251.
 fn message_of(alloc: Global, count: usize) -> Result<Vec<u8>, AirError> {
     let mut message = Vec::new(alloc);
     for index in 0..count {
@@ -130,7 +131,7 @@ fn message_of(alloc: Global, count: usize) -> Result<Vec<u8>, AirError> {
     Ok(message)
 }
 
-/// The digests of such messages of several lengths.
+/// Prints the digests of such messages of several lengths.
 fn show_hashes(rt: HostRuntime) -> io::Result<()> {
     for length in [0usize, 1, 63, 64, 65, 1024] {
         match message_of(rt.alloc(), length) {

@@ -1,4 +1,4 @@
-//! What is found of a message.
+//! The findings about a message.
 ghost use Rattle.std.specs.Prelude.{◌≡◌, ◌*◌, ◌<◌, ◌≤◌, ◌^◌, [], IfOk, length};
 ghost use Rattle.blake3.specs.Hashing.{hash};
 ghost use Rattle.air_blake3.specs.Checks.{ReportsListNothing};
@@ -10,22 +10,22 @@ use blake3::hash;
 use p3_air::{ConstraintReport, Field, PrimeField, RowMajorMatrix, audit_air_with_cap};
 use std::alloc::Global;
 
-/// What the program shows of a message.
+/// The findings that the program prints about a message.
 #[derive(Drop)]
 pub struct Findings {
     /// The message's digest.
     pub digest: [u32; 8],
-    /// What the columns named output of the last row hold, where a digest stands.
+    /// The first eight words in the output columns of the last row, where a digest belongs.
     pub output: [u32; 8],
-    /// How many blocks the message has.
+    /// The number of the message's blocks.
     pub blocks: usize,
     /// The degree of the constraints.
     pub degree: usize,
-    /// What the audit of the trace lists.
+    /// The report of the trace's audit.
     pub report: ConstraintReport,
 }
 
-/// The word whose bits begin at a column of a row; what isn't one counts as zero.
+/// The word whose bits begin at a column of a row; any value other than one is read as zero.
 fn word_at<F: Field>(trace: &RowMajorMatrix<F>, row: usize, first: usize) -> u32
     requires { first ≤ 2 ^ 16 }
 {
@@ -40,7 +40,7 @@ fn word_at<F: Field>(trace: &RowMajorMatrix<F>, row: usize, first: usize) -> u32
     word
 }
 
-/// The first eight words of the output that a row holds.
+/// The first eight words of a row's output.
 fn output_of<F: Field>(trace: &RowMajorMatrix<F>, row: usize) -> [u32; 8] {
     let mut words = [0; 8];
     for index in 0usize..8 {
@@ -49,7 +49,7 @@ fn output_of<F: Field>(trace: &RowMajorMatrix<F>, row: usize) -> [u32; 8] {
     words
 }
 
-/// The trace with one more in a cell.
+/// The trace with one added to a cell.
 fn spoil_cell<F: Field>(
     alloc: Global,
     trace: &RowMajorMatrix<F>,
@@ -76,7 +76,8 @@ fn spoil_cell<F: Field>(
     }
 }
 
-/// What is found of a trace of so many blocks of a message. The audit lists nothing where reports on the trace don't.
+/// The findings about a trace of this many blocks of a message. The audit lists no failure if no report on the trace
+/// does.
 fn found_of_trace<F: PrimeField + 'static>(
     alloc: Global,
     message: &[u8],
@@ -98,8 +99,8 @@ fn found_of_trace<F: PrimeField + 'static>(
     })
 }
 
-/// What is found of the trace of a message, with one more in a cell if one is named. Without, the audit lists nothing,
-/// over a field whose characteristic is above 3 · 2^16.
+/// The findings about the trace of a message, with one added to `cell` if it is given. Without a cell, the audit lists
+/// no failure, over a field whose characteristic is above 3 · 2^16.
 pub fn findings_of<F: PrimeField + 'static>(
     alloc: Global,
     message: &[u8],

@@ -1,5 +1,6 @@
-//! Reads a message of at most 1,024 bytes from standard input, makes the trace of its blocks, and shows the message's
-//! digest, the rows and what an audit finds; with a row and a column as words, what it finds once that cell is spoilt.
+//! Reads a message of at most 1,024 bytes from standard input, makes the trace of its blocks, and prints the message's
+//! digest, the counts and the findings of an audit. With a row and a column as words, that cell is changed before the
+//! audit.
 #![tactic(auto)]
 
 ghost use Rattle.std.specs.Prelude.{◌≤◌, ◌^◌, IfOk, length};
@@ -25,7 +26,7 @@ fn given_words(rt: &HostRuntime) -> io::Result<Vec<String>> {
     Ok(words)
 }
 
-/// The cell that the words name, if there are some. A word that is no text is no number.
+/// The cell that the words name, if there are any. A word that isn't UTF-8 is not a number.
 fn cell_to_spoil(rt: &HostRuntime) -> Result<Option<Cell>, Refusal> {
     match given_words(rt) {
         Ok(words) => cell_of(&words),
@@ -34,7 +35,7 @@ fn cell_to_spoil(rt: &HostRuntime) -> Result<Option<Cell>, Refusal> {
     }
 }
 
-/// The whole input, if it is no longer than one chunk.
+/// The whole input, if it is at most one chunk.
 fn read_message(rt: &HostRuntime) -> Result<Vec<u8>, Refusal>
     ensures { IfOk result (λ message. length message.items ≤ 2 ^ 10) }
 {
@@ -52,14 +53,14 @@ fn read_message(rt: &HostRuntime) -> Result<Vec<u8>, Refusal>
     }
 }
 
-/// What is found of the input.
+/// The findings about the input.
 fn read_findings(rt: &HostRuntime) -> Result<Findings, Refusal> {
     let cell = cell_to_spoil(rt)?;
     let message = read_message(rt)?;
     findings_of::<BabyBear>(rt.alloc(), &message, cell)
 }
 
-/// Eight words after a name, the lowest byte of each first.
+/// Prints a name and eight words, each little-endian.
 fn show_words(rt: &HostRuntime, name: &str, words: [u32; 8]) -> io::Result<()> {
     print!(rt; "{name} ")?;
     for word in words {
@@ -68,7 +69,7 @@ fn show_words(rt: &HostRuntime, name: &str, words: [u32; 8]) -> io::Result<()> {
     println!(rt; "")
 }
 
-/// What is found, in lines; the status is 0 where the audit lists nothing, and else 1.
+/// Prints the findings; the status is 0 if the audit lists no failure, otherwise 1.
 fn show(rt: &HostRuntime, found: &Findings) -> io::Result<u8> {
     show_words(rt, "digest", found.digest)?;
     show_words(rt, "output", found.output)?;
@@ -87,7 +88,7 @@ fn show(rt: &HostRuntime, found: &Findings) -> io::Result<u8> {
     Ok(1)
 }
 
-/// Answers a status and never an `Err`, which would print to standard error.
+/// Returns a status, never an `Err`, which would print to standard error.
 fn main(rt: HostRuntime) -> ExitCode {
     let shown = match read_findings(&rt) {
         Ok(found) => show(&rt, &found),

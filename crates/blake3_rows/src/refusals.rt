@@ -9,9 +9,9 @@ use std::alloc::{AllocError, AllocFailed};
 /// Why there is no answer.
 #[derive(Clone, Copy, Debug, Drop)]
 pub enum Refusal {
-    /// The words aren't none, nor a row and a column.
+    /// There are words, but they are not a row and a column.
     Usage,
-    /// A word is no number.
+    /// A word is not a number.
     NotANumber,
     /// The input can't be read.
     Read,
@@ -19,16 +19,16 @@ pub enum Refusal {
     TooLong,
     /// The trace has no such row.
     NoSuchRow,
-    /// It has no such column.
+    /// The trace has no such column.
     NoSuchColumn,
-    /// A growth was refused.
+    /// Out of memory.
     Memory,
-    /// Something else was refused than a growth; no case is known.
+    /// Any other error; none is known to occur.
     Audit,
 }
 
 impl Refusal {
-    /// The name in the line that is written.
+    /// The name in the line of a refusal.
     pub fn name(self) -> &'static str
         ensures { result.now ≡ refusal_name self }
     {
@@ -51,14 +51,14 @@ impl From<AllocError> for Refusal {
     }
 }
 
-// So that a list's growth is refused by `?` too, which hands the item back.
+// For `?` after a push, whose error returns the item.
 impl<T: Drop> From<AllocFailed<T>> for Refusal {
     fn from(_error: AllocFailed<T>) -> Refusal {
         Refusal::Memory
     }
 }
 
-// So many rows as this program makes are never too many.
+// This program's traces never have too many rows, so the error is `Memory`.
 impl From<TraceError> for Refusal {
     fn from(_error: TraceError) -> Refusal {
         Refusal::Memory

@@ -10,7 +10,7 @@ pub struct Cell {
     pub column: usize,
 }
 
-/// The number that a word writes in decimal digits.
+/// The number in a word, in decimal digits.
 fn number_of(word: &str) -> Result<usize, Refusal>
     ensures { IfErr result (λ why. why ≡ Refusal.NotANumber) }
 {
@@ -20,7 +20,7 @@ fn number_of(word: &str) -> Result<usize, Refusal>
     }
 }
 
-/// The cell that the words name, if there are some.
+/// The cell that the words name, if there are any.
 pub fn cell_of(words: &[String]) -> Result<Option<Cell>, Refusal>
     ensures none { IfOk result (λ cell. (cell ≡ None) ↔ (length words.now ≡ 0)) }
     ensures two { IfOk result (λ cell. cell ≢ None → length words.now ≡ 2) }

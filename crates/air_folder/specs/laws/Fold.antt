@@ -1,4 +1,4 @@
--- The fold that goes on is Horner's, value after value.
+-- The continued fold is Horner's fold, one value at a time.
 use Rattle.std.specs.Prelude.{◌≡◌, ℕ, zero, suc, ◌-◌, List, [], ◌∷◌, ◌++◌, length, slice_index_or, refl}
 use Rattle.std.proofs.Common.{sym, ◌∙◌, ap, ap₂, arith}
 use Rattle.air_field.specs.Ring.{CommRing}
@@ -10,7 +10,7 @@ use Rattle.air_recording.specs.Folds.{sum_below, sum_by_powers}
 use Rattle.air_folder.specs.Fold.{folded_on, fold_from}
 
 module _ {E : Type 0} (r : CommRing E) where
-  -- the first summand apart
+  -- the first summand separately
   sum_below-first : (f : ℕ → E) (n : ℕ) → sum_below r f (suc n) ≡ r.add (f 0) (sum_below r (λ i. f (suc i)) n)
   sum_below-first f zero = r.add_comm r.zero (f 0)
   sum_below-first f (suc n) =
@@ -45,18 +45,18 @@ module _ {E : Type 0} (r : CommRing E) where
     running-append acc [] ys = refl
     running-append acc (x ∷ xs) ys = running-append (r.add (r.mul acc alpha) x) xs ys
 
-    -- one value more
+    -- one more value
     pub folded_on-one : (acc v : E) → r.add (r.mul acc alpha) v ≡ folded_on r alpha acc (v ∷ [])
     folded_on-one acc v = running-is acc (v ∷ [])
 
-    -- what was folded before is gone on from
+    -- a fold continues an earlier fold
     pub folded_on-append : (acc : E) (xs ys : List E) → folded_on r alpha (folded_on r alpha acc xs) ys ≡ folded_on r alpha acc (xs ++ ys)
     folded_on-append acc xs ys =
         sym (running-is (folded_on r alpha acc xs) ys)
         ∙ (ap (λ a. fold_from r alpha a ys) (sym (running-is acc xs))
         ∙ (sym (running-append acc xs ys) ∙ running-is acc (xs ++ ys)))
 
-    -- of no values it is the accumulator
+    -- the fold of no values is the accumulator
     pub folded_on-none : (acc : E) → acc ≡ folded_on r alpha acc []
     folded_on-none acc = running-is acc []
 

@@ -1,4 +1,4 @@
--- A folder keeps the laws of builders.
+-- A folder satisfies the laws of builders.
 use Rattle.std.specs.Prelude.{◌≡◌, List, [], ◌∷◌, ◌++◌, Ok, refl}
 use Rattle.std.proofs.Common.{sym, ◌∙◌, ap, ap₂, subst}
 use Rattle.std.proofs.lemmas.List.{map-append}
@@ -36,11 +36,11 @@ module _ {F E : Type 0} (a : AlgebraOver F E) where
         ∙ ap (folded_on a.ring d.alpha x) (sym (map-append (value_in a (folder_leaves a d)) ts us))));
   }
 
-  -- a folder of the same row and accumulator grew by nothing
+  -- a folder with the same row and accumulator grew by nothing
   pub unchanged : (d e : FolderRow E) (x y : E) → e ≡ d → y ≡ x → GrewFolder a d e x y []
   unchanged d e x y same p = record { same_row = same; folded = p ∙ folded_on-none a.ring d.alpha x }
 
-  -- folding the value of one assertion is growth by it
+  -- folding the value of one assertion is growth by that assertion
   pub grew_one : (d e : FolderRow E) (x y v : E) (s : Assertion F) → e ≡ d → y ≡ a.ring.add (a.ring.mul x d.alpha) v → value_in a (folder_leaves a d) s ≡ v → GrewFolder a d e x y (s ∷ [])
   grew_one d e x y v s same p q = record {
     same_row = same;
@@ -61,7 +61,7 @@ module _ {F E : Type 0} (a : AlgebraOver F E) where
   abbrev refuses : ConstraintFolder F E → AirError → List (Assertion F) → Type 0
   refuses b e ts = FolderRefuses (folder_row b) e ts
 
-  -- what was folded in is asserted, base terms and extension terms alike
+  -- a value that is folded in is asserted, for base and for extension terms
   pub folded_asserted : (basis : Basis F E) → ((x : E) → a.extend (basis.coefficients x) ≡ x)
       → {kind : Term F → Assertion F} (b c : ConstraintFolder F E) (x : E) → folder_row c ≡ folder_row b → StepsBy a x b c
       → ((s : Leaf → E) (t : Term F) → value_in a s (kind t) ≡ value a s t)
@@ -101,11 +101,11 @@ module _ {F E : Type 0} (a : AlgebraOver F E) where
   lent b q = unchanged (folder_row b) (folder_row b) b.accumulator b.accumulator refl refl
 
   module _ (basis : Basis F E) where
-    -- a folder keeps them for its ring, where each element means a term
+    -- a folder satisfies the laws of builders for its ring, where each element means a term
     pub folder_laws : BuilderLaws (row_view folder_row shape (folder_reads_as a basis) (FolderGrew a) refuses (λ b. b.ring) with_ring (HasValue a))
     folder_laws = row_laws folder_row shape (folder_reads_as a basis) (FolderGrew a) refuses (λ b. b.ring) with_ring lent (λ b q. refl) (grows (folder_reads_as a basis))
 
-    -- and for its ring over the extension, which is the same
+    -- and likewise for its ring over the extension, which is the same ring
     pub folder_extension_laws : ExtensionRingLaws (row_view folder_row shape (folder_reads_as a basis) (FolderGrew a) refuses (λ b. b.ring) with_ring (HasValue a))
         (row_over folder_row shape (folder_reads_as a basis) (FolderGrew a) refuses (λ b. b.ring) with_ring (HasValue a) (HasValue a))
     folder_extension_laws = row_extension_laws folder_row shape (folder_reads_as a basis) (FolderGrew a) refuses (λ b. b.ring) with_ring lent (λ b q. refl) (λ b. b.ring) (HasValue a)

@@ -1,4 +1,4 @@
-//! The folder: it holds the values at one row, and folds the values of what is asserted.
+//! The folder: it holds the values of one row, and folds the values of assertions.
 ghost use Rattle.std.specs.Prelude.{◌≡◌};
 ghost use Rattle.air_folder.specs.FolderRow.{StartsAt, accumulator_of};
 
@@ -7,7 +7,7 @@ use crate::folder::row::{Row, Selectors};
 use air_audit::{ExtensionField, Field, RowWindow, ViewPair};
 use std::marker::PhantomData;
 
-/// Evaluates constraints on one row whose values are of the extension `EF`, and folds them: after values v1 to vK the
+/// Evaluates constraints on one row with values in the extension `EF`, and folds them: after the values v1 to vK, the
 /// accumulator is the sum of alpha^(K-i) times vi. It borrows the rows and the values, and takes no memory.
 #[derive(Drop)]
 pub struct ConstraintFolder<'a, F: Field, EF: ExtensionField<F>> {
@@ -18,13 +18,13 @@ pub struct ConstraintFolder<'a, F: Field, EF: ExtensionField<F>> {
     pub(crate) alpha: EF,
     pub(crate) accumulator: EF,
     pub(crate) ring: FolderRing<F, EF>,
-    // holds nothing: the prover finds the lending of the ring where a field borrows exclusively, and not where all share
+    // zero-sized: the prover finds the borrow of the ring only if some field borrows exclusively
     exclusive: PhantomData<&'a mut EF>,
 }
 
 impl<'a, F: Field, EF: ExtensionField<F>> ConstraintFolder<'a, F, EF> {
-    /// A folder at a row and the one after it, as the pairs hold them, that has folded nothing yet. The permutation
-    /// trace may be left out.
+    /// A folder at a row and the next one, both in the pairs, that has folded nothing yet. The permutation trace is
+    /// optional.
     pub fn new(
         main: ViewPair<'a, EF>,
         preprocessed: ViewPair<'a, EF>,
@@ -69,7 +69,7 @@ impl<'a, F: Field, EF: ExtensionField<F>> ConstraintFolder<'a, F, EF> {
         }
     }
 
-    /// The fold of what was asserted so far, in order.
+    /// The fold of all assertions so far, in order.
     pub fn accumulator(&self) -> EF
         ensures { result ≡ accumulator_of self.now }
     {

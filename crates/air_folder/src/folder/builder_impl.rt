@@ -1,4 +1,5 @@
-//! The folder as a builder: an expression is its value, and an assertion adds the value to the sum times alpha.
+//! The folder as a builder: an expression is its value, and an assertion multiplies the accumulator by alpha and adds
+//! its value.
 ghost use Rattle.std.specs.Prelude.{◌≡◌, ⊤};
 ghost use Rattle.air_folder.specs.Folder.{folder_reads_as, FolderMissing, FolderRefuses};
 ghost use Rattle.air_folder.specs.laws.Folder.{folder_laws};

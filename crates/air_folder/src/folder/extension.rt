@@ -43,7 +43,7 @@ impl<'a, F: Field, EF: ExtensionField<F>> PermutationAirBuilder for ConstraintFo
 
     type PermutationVar = EF;
 
-    /// The window of the permutation trace; a folder that was made without one, and it alone, refuses.
+    /// The window of the permutation trace; `NoPermutation` exactly if the folder was made without one.
     fn permutation(&self) -> Result<RowWindow<'a, EF>, AirError>
         ensures current { IfOk result (λ w. PermutationReadsAs EF.over EF.basis
             (folder_row self.now) 0 (⟦<RowWindow<'a, EF> as WindowAccess<EF>>⟧.current_row w)) }

@@ -1,4 +1,4 @@
-//! The folder discards labels, which it never evaluates, and has no context.
+//! The folder ignores labels without evaluating them, and has no context.
 ghost use Rattle.std.specs.Prelude.{[], ◌∷◌, refl};
 ghost use Rattle.air_builder.specs.Assertion.{Base, Extension};
 ghost use Rattle.air_builder.specs.Batches.{Asserts};

@@ -1,4 +1,4 @@
-//! The ring in which a folder's expressions are made.
+//! The ring of a folder's expressions.
 ghost use Rattle.std.specs.Prelude.{◌≡◌, ⊤, IsTrue};
 ghost use Rattle.air_field.specs.Ring.{minus};
 ghost use Rattle.air_field.specs.Term.{ext_const_term};
@@ -9,8 +9,8 @@ ghost use Rattle.air_folder.specs.Folder.{HasValue, values_are_their_base};
 use air_audit::{Algebra, ExtAlgebra, ExtensionField, Field, FromVar, RingError};
 use std::marker::PhantomData;
 
-/// The extension as a ring over itself: base expressions are elements of the extension too. It keeps nothing and
-/// refuses nothing.
+/// The extension as a ring over itself: base expressions are elements of the extension too. It has no state and never
+/// fails.
 #[derive(Clone, Copy)]
 pub struct FolderRing<F, EF> {
     base: PhantomData<F>,
@@ -18,7 +18,7 @@ pub struct FolderRing<F, EF> {
 }
 
 impl<F: Field, EF: ExtensionField<F>> FolderRing<F, EF> {
-    /// The ring of the extension: its type has this value alone.
+    /// The ring of the extension, the only value of its type.
     pub fn new() -> Self
         ensures { (r : Self F EF) → r ≡ result }
     {

@@ -1,4 +1,4 @@
-//! The row that a folder stands at.
+//! The row of a folder.
 
 use air_audit::RowWindow;
 
@@ -10,8 +10,8 @@ pub(crate) struct Selectors<EF: Copy> {
     pub(crate) is_transition: EF,
 }
 
-/// A row of a trace and the one after it, as they are lent: of the main trace and of the preprocessed table, with the
-/// values of the periodic columns, the public values and the selectors.
+/// A borrowed row and the next one, of the main and the preprocessed trace, with the values of the periodic columns,
+/// the public values and the selectors.
 #[derive(Drop)]
 pub(crate) struct Row<'a, EF: Copy> {
     pub(crate) main: RowWindow<'a, EF>,

@@ -1,4 +1,4 @@
--- Readers that find exactly what is spelt, and refuse with exactly the first fault.
+-- Readers that answer exactly what data spell, and refuse with exactly the first fault.
 use Rattle.std.proofs.Common.{◌≡◌, ℕ, ◌<◌, ◌≤◌, Bool, true, false, List, [], ◌∷◌, ◌++◌, length, append_assoc, ◌||◌, is_some, if◌then◌else◌, Option, Some, None, Result, Ok, Err, refl, sym, ap, subst, ◌∙◌, inl, inr}
 use Rattle.std.specs.Prelude.{nat_lt}
 use Rattle.std.proofs.lemmas.Bool.{ltb-true, ltb-false, lt-ltb, le-ltb}
@@ -18,7 +18,7 @@ pub record Agrees {X : Type 0} (g : Grammar X) (read : Reader X) : Type 0 where
   pub fault : (d : Data) (f : FlatError) → read d ≡ Err f → g.fault d f
   pub refused : (d : Data) (f : FlatError) → g.fault d f → read d ≡ Err f
 
--- a reader that reads the same
+-- a reader with equal answers agrees too
 pub agrees_as : {X : Type 0} (g : Grammar X) (read other : Reader X) → ((d : Data) → other d ≡ read d) → Agrees g read → Agrees g other
 agrees_as g read other same agrees = record {
   found = λ d x e. agrees.found d x (sym (same d) ∙ e);
@@ -111,7 +111,7 @@ module _ {X : Type 0} (g : Grammar X) (read : Reader X) (agrees : Agrees g read)
   }
 
 module _ {X : Type 0} (n : ℕ) (g : Grammar (List X)) (read : Reader (List X)) (agrees : Agrees g read) where
-  -- by whether they are more
+  -- by whether there are too many
   abbrev by_count : List X → Bool → Result (List X) FlatError
   by_count xs more = if more then Err (faults.Shape 0) else Ok xs
 
@@ -250,7 +250,7 @@ module _ {X Y : Type 0} (one other : List ℕ) (g : Grammar X) (h : Grammar Y) (
   either_found d o (Some c) b at by e = some_found d o (read d) refl e
   either_found d o None (Some c) at by e = some_found d o (read d) refl e
 
-  -- where the first is there
+  -- if the first member is present
   first_there : (d : Data) (c : Data) → get one d ≡ Some c → if_either one other read d ≡ some_of (read d)
   first_there d c at = ap (λ a. of_either (read d) a (get other d)) at
 

@@ -1,4 +1,4 @@
--- The members are read as they are spelt.
+-- The members are read exactly as they are spelt.
 use Rattle.std.proofs.Common.{◌≡◌, ℕ, Bool, true, false, List, [], length, Option, Some, None, Result, Ok, Err, if◌then◌else◌, codes, refl, sym, ap, ◌∙◌, inl, inr}
 use Rattle.std.proofs.lemmas.Bool.{ltb-false, le-ltb}
 use Rattle.std.specs.Prelude.{nat_lt}
@@ -182,7 +182,7 @@ module _ {F : Type 0} {order : ℕ} (modular : Modular F order) where
   pub labelled_agree : Agrees (labelled_constraints modular) (labelled_read modular)
   labelled_agree = then_agrees _ (constraints_member modular) constraints_agree _ (λ trees. labels_member (length trees)) (λ trees. labels_member_agrees (length trees))
 
-  -- the readers in turn, each with all that follow it
+  -- the readers in order, each with all that follow it
   abbrev others_in_turn : Reader (OtherValues F)
   others_in_turn = both_read (width_member (codes "main_width")) (both_read (elements_member modular (codes "main")) (both_read (table_member modular) (both_read (elements_member modular (codes "public_values")) (both_read (constraints_member modular) (both_read (periodic_member modular) (both_read boundary_member (both_read cap_member weight_member)))))))
 

@@ -1,4 +1,4 @@
--- Lines by values that are known, and what a number's reads are.
+-- Lines printed from known values, and the leaves that an expression reads.
 use Rattle.std.specs.Prelude.{slice_get}
 use Rattle.std.proofs.Common.{◌≡◌, ℕ, zero, suc, ◌<◌, ◌≤◌, Bool, true, false, ◌&&◌, cond, List, [], ◌∷◌, ◌++◌, length, slice_index_or, map, All, Contains, Option, None, Some, is_some, codes, refl, sym, ap, ap₂, subst, ◌∙◌, arith, ⊎_elim}
 use Rattle.std.proofs.lemmas.List.{map-append}
@@ -28,7 +28,7 @@ each_operand P i (node.Sub x y d) h e = ⊎_elim (λ (p : i ≡ x). subst P (sym
 each_operand P i (node.Neg x d) h e = subst P (sym e) h
 each_operand P i (node.Mul x y d) h e = ⊎_elim (λ (p : i ≡ x). subst P (sym p) h.0) (λ (p : i ≡ y). subst P (sym p) h.1) e
 
--- what a marked number reaches is marked
+-- an expression that a marked expression reaches is marked
 marked_reach : {F : Type 0} (ns : List (SymbolicExpr (BaseLeaf F))) (marks : List (Option ℕ)) (from i : ℕ) → AreClosed ns marks → Marked marks from → ReachedFrom base_leaves ns (from ∷ []) i → Marked marks i
 marked_reach ns marks from i closed at (root c) = subst (λ j. Marked marks j) (only c) at
   where
@@ -45,7 +45,7 @@ some_of : (o : Option ℕ) → is_some o ≡ true → (j : ℕ) × (o ≡ Some j
 some_of None h = cc
 some_of (Some j) h = (j, refl)
 
--- functions that agree on what passes
+-- functions that agree wherever the test passes
 same_below : {X : Type 0} (test : ℕ → Bool) (f g : ℕ → X) (n : ℕ) → ((i : ℕ) → i < n → test i ≡ true → f i ≡ g i) → map f (passing_below test n) ≡ map g (passing_below test n)
 same_below test f g zero h = refl
 same_below test f g (suc n) h =
@@ -57,7 +57,7 @@ same_below test f g (suc n) h =
     last true e = ap (λ x. x ∷ []) (h n (omega arith) e)
     last false e = refl
 
--- what passes below n is below k, if n isn't above it
+-- whatever passes below n is below k, if n ≤ k
 pub passing_low : (test : ℕ → Bool) (k n : ℕ) → n ≤ k → All (λ x. x < k) (passing_below test n)
 passing_low test k zero le = All-nil (λ x. x < k)
 passing_low test k (suc n) le =
@@ -67,17 +67,17 @@ passing_low test k (suc n) le =
     either true = All-cons (λ x. x < k) n [] (omega (arith, le)) (All-nil (λ x. x < k))
     either false = All-nil (λ x. x < k)
 
--- what is read is in the pool
+-- the leaves that an expression reads are in the pool
 pub reads_here : {F : Type 0} (ns : List (SymbolicExpr (BaseLeaf F))) (from : ℕ) (numbers : List ℕ) → Reads ns from numbers → All (λ i. i < length ns) numbers
 reads_here ns from numbers h = subst (λ xs. All (λ i. i < length ns) xs) (sym h.numbers_are) (passing_low (is_read ns h.marks) (length ns) (length ns) (omega arith))
 
--- what a number reads is marked where the number is
+-- the leaves that a marked expression reads are marked
 read_marked : {F : Type 0} (ns : List (SymbolicExpr (BaseLeaf F))) (marks read : List (Option ℕ)) (from i : ℕ) → AreClosed ns marks → Marked marks from → Reached base_leaves ns (from ∷ []) read → is_read ns read i ≡ true → Marked marks i
 read_marked ns marks read from i closed at h is =
     let some = some_of (slice_index_or read i None) (both_true (is_reached read i) (has_variable (slice_get ns i)) is) in
     marked_reach ns marks from i closed at (h.only_reached i some.0 some.1).1
 
--- The lines by values that are known explain a number.
+-- Lines printed from known values explain an expression.
 pub explains_known : {F : Type 0} {p : ℕ} (m : Modular F p) (r : CommRing F) (s : Leaf → F) (pool : BaseNodes F) (names marks : List (Option ℕ)) (values : List F) (from : ℕ) (numbers : List ℕ) → AreClosed pool.nodes marks → Known r s pool.nodes marks (length pool.nodes) values → from < length pool.nodes → Marked marks from → Reads pool.nodes from numbers → Explains m r s pool names from (explained_lines m pool names (λ i. slice_index_or values i r.zero) from numbers)
 explains_known {F} m r s pool names marks values from numbers closed known here at reads =
     let ns = pool.nodes in

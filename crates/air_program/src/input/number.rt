@@ -5,10 +5,10 @@ ghost use Rattle.air_program.specs.Grammar.{element_number};
 
 const MOST_DIGITS: usize = 10;
 
-/// The greatest number below the modulus of the field.
+/// The largest residue of the field.
 const GREATEST: u64 = 2013265920;
 
-/// The number that a field writes.
+/// The number in a field.
 #[tactic(auto, unfolding(crate::specs::Grammar::element_number))]
 pub fn number(field: &[u8]) -> Option<u32>
     ensures value { result ≡ element_number field.now }

@@ -27,7 +27,7 @@ impl<T: Drop> From<AllocFailed<T>> for ParseFault {
     }
 }
 
-/// Adds the numbers of a line at the end, and answers how many it has.
+/// Appends the numbers of a line, and answers how many there are.
 #[tactic(auto, using(crate::proofs::Numbers::next_number))]
 fn push_numbers(numbers: &mut Vec<BabyBear>, line: &[u8]) -> Result<usize, ParseFault>
     ensures numbers { OnOk result (onto (element_values numbers.old.items)
@@ -47,7 +47,7 @@ fn push_numbers(numbers: &mut Vec<BabyBear>, line: &[u8]) -> Result<usize, Parse
     Ok(numbers.len() - before)
 }
 
-/// Adds the numbers of the next line that has some, and answers how many: 0 where no such line is left.
+/// Appends the numbers of the next line that has any, and answers how many there are: 0 if no such line is left.
 #[tactic(auto, using(crate::proofs::Rows::row_taken, crate::proofs::Rows::line_skipped, crate::proofs::Rows::bad_line))]
 fn push_row(numbers: &mut Vec<BabyBear>, rest: &mut &[u8]) -> Result<usize, ParseFault>
     ensures ok { IfOk result (λ count. PushesRow (element_values numbers.old.items)
@@ -67,14 +67,14 @@ fn push_row(numbers: &mut Vec<BabyBear>, rest: &mut &[u8]) -> Result<usize, Pars
     Ok(0)
 }
 
-/// Three public values, and the trace row after row.
+/// Three public values, and the values of the trace row after row.
 #[derive(Drop)]
 pub struct Input {
     pub public_values: Vec<BabyBear>,
     pub values: Vec<BabyBear>,
 }
 
-/// What the bytes spell.
+/// Parses the bytes.
 #[tactic(auto, unfolding(crate::specs::Grammar::parse))]
 pub fn parse(alloc: Global, bytes: &[u8]) -> Result<Input, ParseFault>
     ensures ok { IfOk result (λ input. parse bytes.now ≡ Some

@@ -5,14 +5,14 @@ ghost use Rattle.std.specs.List.{slice_split};
 ghost use Rattle.std.specs.Str.Lines.{lines, strip_carriage_return};
 ghost use Rattle.air_program.specs.Grammar.{fields_of};
 
-/// The first place of a byte.
+/// The first index of a byte.
 fn find(bytes: &[u8], byte: u8) -> Option<usize>
     ensures { result ≡ position (λ b. b == byte) bytes.now }
 {
     bytes.iter().position(|b| *b == byte)
 }
 
-/// The bytes before the first such byte and those behind it, where there is one.
+/// The bytes before the first occurrence of `byte`, and those after it, if it occurs.
 fn cut(bytes: &[u8], byte: u8) -> Option<(&[u8], &[u8])>
     ensures some { IfSome result (λ p. slice_split (λ b. b == byte) bytes.now ≡ p.0.now
         ∷ slice_split (λ b. b == byte) p.1.now) }
@@ -23,7 +23,7 @@ fn cut(bytes: &[u8], byte: u8) -> Option<(&[u8], &[u8])>
     Some((&bytes[..end], &bytes[end + 1..]))
 }
 
-/// A line without the one byte 13 before its end.
+/// A line without one trailing byte 13.
 fn without_return(line: &[u8]) -> &[u8]
     ensures { result.now ≡ strip_carriage_return line.now }
 {
@@ -33,7 +33,7 @@ fn without_return(line: &[u8]) -> &[u8]
     }
 }
 
-/// The first line and the bytes behind it, where there is one.
+/// The first line and the bytes after it, if there is one.
 #[tactic(auto, using(crate::proofs::Pieces::ended_line))]
 pub fn next_line(bytes: &[u8]) -> Option<(&[u8], &[u8])>
     ensures some { IfSome result (λ p. lines bytes.now ≡ p.0.now ∷ lines p.1.now) }
@@ -46,7 +46,7 @@ pub fn next_line(bytes: &[u8]) -> Option<(&[u8], &[u8])>
     }
 }
 
-/// The first field of a line and the bytes behind it, where there is one.
+/// The first field of a line and the bytes after it, if there is one.
 #[tactic(auto, using(crate::proofs::Pieces::empty_field, crate::proofs::Pieces::some_field), unfolding(crate::specs::Grammar::fields_of))]
 pub fn next_field(line: &[u8]) -> Option<(&[u8], &[u8])>
     ensures some { IfSome result (λ p. fields_of line.now ≡ p.0.now ∷ fields_of p.1.now) }

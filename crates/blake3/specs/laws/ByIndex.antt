@@ -1,4 +1,4 @@
--- The compression by indices is the compression.
+-- The compression by indices equals the compression.
 use Rattle.std.specs.Prelude.{◌≡◌, ℕ, zero, suc, refl}
 use Rattle.std.proofs.Common.{◌∙◌, ap}
 use Rattle.blake3.specs.Compression.{Block, round, place_in, first_state, after_rounds, compress}

@@ -1,9 +1,9 @@
--- The places in the message that the rounds take their words from.
+-- The indices in the message from which the rounds take their words.
 use Rattle.std.specs.Prelude.{◌≡◌, ℕ, zero, suc, refl, ◌<◌, List, [], ◌∷◌, slice_index, ⊤}
 use Rattle.std.proofs.Common.{arith}
 use Rattle.blake3.specs.Compression.{permutation, place_in}
 
--- each place is one of the sixteen
+-- each index is below 16
 abbrev AllBelow : List ℕ → Type 0
 AllBelow [] = ⊤
 AllBelow (x ∷ xs) = (x < 16) × AllBelow xs
@@ -19,7 +19,7 @@ permutation_below = (omega arith, (omega arith, (omega arith, (omega arith, (ome
 pub permutation_below_at : (i : ℕ) → slice_index permutation i < 16
 permutation_below_at i = below_at permutation permutation_below i
 
--- the words of the first round stand where they do, and those of a further one where the one before takes its own from
+-- round 0 uses the words in order; round r + 1 uses at index i the word that round r uses at the permuted index
 pub place_in-zero : (i : ℕ) → place_in 0 i ≡ i
 unfolding place_in
 place_in-zero i = refl

@@ -1,4 +1,4 @@
--- What is made of words below 2^32 is below 2^32.
+-- The results of operations on words below 2^32 are below 2^32.
 use Rattle.std.specs.Prelude.{ℕ, zero, suc, ◌+◌, ◌-◌, ◌*◌, ◌/◌, ◌%◌, ◌^◌, ◌<◌}
 use Rattle.std.specs.Int.{w32, rotate_right}
 use Rattle.std.specs.Int.Bits.{or_lt, xor_lt}

@@ -1,7 +1,7 @@
 use contract.BorrowLft.{⊑_static}
 use Rattle.air_bench.proofs.checks.check_flat.Goals as goal
 
--- the field lives for ever
+-- the field is 'static
 pub count_checked-requires-lives-A-Air : goal.count_checked-requires-lives-A-Air
 count_checked-requires-lives-A-Air g c κs within a m = ⊑_static _ a (c.type_bounds.static-F a m)
 

@@ -1,7 +1,7 @@
 use contract.BorrowLft.{⊑_static}
 use Rattle.air_bench.proofs.wide_works.wide_ext_rounds.Goals as goal
 
--- the field lives for ever
+-- the field is 'static
 pub ext_rounds-requires-lives-A-Air-2 : goal.ext_rounds-requires-lives-A-Air-2
 ext_rounds-requires-lives-A-Air-2 g c κs within a m = ⊑_static _ a (c.type_bounds.static-EF a m)
 

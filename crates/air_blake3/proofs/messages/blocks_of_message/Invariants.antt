@@ -4,7 +4,7 @@ use Rattle.blake3.specs.Hashing.{block_at, chaining_value_after}
 use Rattle.air_blake3.specs.Traces.{block_in}
 use Rattle.air_blake3.proofs.messages.blocks_of_message.Given as goal
 
--- so many blocks were pushed, and this is the chaining value that they leave
+-- `index` blocks were pushed, and the chaining value is the one after them
 abbrev pub invariant-loop-index : goal.invariant-loop-index
 invariant-loop-index l = record {
   chaining : l.chaining ≡ chaining_value_after l.message l.index;

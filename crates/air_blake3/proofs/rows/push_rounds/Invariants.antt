@@ -6,7 +6,7 @@ use Rattle.blake3.specs.Blocks.{word_of_round}
 use Rattle.air_blake3.specs.Values.{round_values}
 use Rattle.air_blake3.proofs.rows.push_rounds.Given as goal
 
--- the state is that after so many rounds, and theirs were pushed
+-- the state is the one after `turn` rounds, and the values of these rounds were pushed
 abbrev pub invariant-loop-turn : goal.invariant-loop-turn
 invariant-loop-turn g l = record {
   now : l.state ≡ after_rounds l.fn.v (slice_index l.message) l.turn;

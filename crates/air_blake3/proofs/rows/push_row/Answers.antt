@@ -9,7 +9,7 @@ use Rattle.air_blake3.specs.Values.{block_row, four_bits, input_values, output_v
 use Rattle.air_blake3.proofs.Pushes.{joined_4, on_any, on_ok}
 use Rattle.air_blake3.proofs.rows.push_row.Goals as goal
 
--- the rounds' values, from a first state
+-- the values of the rounds, from a first state
 abbrev rounds_of : {F : Type 0} → CommRing F → List ℕ → State → List F
 rounds_of R message v = asserts_of_first (λ r. round_values R (after_rounds v (slice_index message) r) (word_of_round message r)) 7
 

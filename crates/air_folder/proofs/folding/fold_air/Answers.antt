@@ -19,7 +19,7 @@ returns-clause-folded g c =
     c.in_ok-recorded.ensures.base c.in_ok-recorded.ensures.ext c.in_ok-recorded.ensures.places
     (fold_from_zero over.ring d.alpha values c.args.folder.now.accumulator c.requires.from_zero c.eval.new.builder.accumulator c.accumulator.result c.in_ok-eval.ensures.asserted.ok.folded c.accumulator.ensures)
 
--- a refusal that is handed on is the one that came
+-- an error that is passed on is the one that came
 handed_on : {T E : Type 0} (r : Result T E) (e : E) (P : E → Type 0) → IsErrAnd r (λ x. x ≡ e) → P e → IfErr r P
 handed_on (Ok x) e P h p = absurd h
 handed_on (Err x) e P h p = subst P (sym h) p

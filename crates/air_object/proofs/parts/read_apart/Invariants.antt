@@ -9,7 +9,7 @@ use Rattle.air_object.proofs.parts.read_apart.Given as goal
 abbrev pub decreases-members : goal.decreases-members
 decreases-members g l = length l.reader
 
--- the members that are read, and those that are left, are all
+-- the members read so far and the remaining ones are all members
 abbrev pub invariant-members : goal.invariant-members
 invariant-members g l =
     (n : ℕ) × (length l.reader ≤ n) × (ms : Members)

@@ -11,7 +11,7 @@ use Rattle.air_object.proofs.parts.read_lists.Given as goal
 abbrev pub decreases-items : goal.decreases-items
 decreases-items g l = length l.reader
 
--- the lists that are read, and those that are left, are all
+-- the lists read so far and the remaining ones are all lists
 abbrev pub invariant-items : goal.invariant-items
 invariant-items g l =
     (n : ℕ) × (length l.reader ≤ n) × (ds : List Data)

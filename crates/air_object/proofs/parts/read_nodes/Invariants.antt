@@ -12,7 +12,7 @@ use Rattle.air_object.proofs.parts.read_nodes.Given as goal
 abbrev pub decreases-items : goal.decreases-items
 decreases-items g l = length l.reader
 
--- the nodes that are read, and those that are left, are all
+-- the nodes read so far and the remaining ones are all nodes
 abbrev pub invariant-items : goal.invariant-items
 invariant-items g l =
     (n : ℕ) × (length l.reader ≤ n) × (ds : List Data)

@@ -4,7 +4,7 @@ use Rattle.air_print.specs.Explained.{reached_definitions}
 use Rattle.air_print.proofs.Definitions.{definitions_from}
 use Rattle.air_print.proofs.explained.push_reached_definitions.Given as goal
 
--- what was written and the lines that are left
+-- the written text and the remaining lines make up the result
 abbrev pub invariant-loop-name : goal.invariant-loop-name
 invariant-loop-name g l =
     let m = g.F.PrimeField64.residues in

@@ -3,7 +3,7 @@ use Rattle.air_print.specs.Infix.{shown_number}
 use Rattle.air_print.specs.Pieces.{rest_text, IsPieceBelow, rest_size}
 use Rattle.air_print.proofs.infix.write_rest.Given as goal
 
--- what was written and what is left make the text
+-- the written text and the remaining pieces make up the result
 abbrev pub invariant-loop-piece : goal.invariant-loop-piece
 invariant-loop-piece g l =
     let f = shown_number (λ i. get_or l.names.1 i None) l.pool.nodes in

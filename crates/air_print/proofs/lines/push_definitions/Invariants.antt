@@ -3,7 +3,7 @@ use Rattle.air_print.specs.Lines.{lines_text, number_lines, definition_line}
 use Rattle.air_print.proofs.LineLemmas.{lines_from}
 use Rattle.air_print.proofs.lines.push_definitions.Given as goal
 
--- what was written and the lines that are left
+-- the written text and the remaining lines make up the result
 abbrev pub invariant-loop-name : goal.invariant-loop-name
 invariant-loop-name g l =
     let line = definition_line g.F.PrimeField64.residues l.pool l.names.1 in

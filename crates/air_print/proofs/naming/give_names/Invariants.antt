@@ -4,7 +4,7 @@ use Rattle.air_print.specs.Names.{passing_below, name_by}
 use Rattle.air_print.specs.Counts.{passes}
 use Rattle.air_print.proofs.naming.give_names.Given as goal
 
--- the numbers so far have their names
+-- the visited expressions have their names
 abbrev pub invariant-loop-number : goal.invariant-loop-number
 invariant-loop-number g l =
     let test = passes l.pool.nodes l.marks l.counts in

@@ -6,7 +6,7 @@ use Rattle.air_program.specs.AtHand.{KnownAt}
 use Rattle.air_program.specs.Explained.{PushesExplained}
 use Rattle.air_program.proofs.explain.push_failures.Given as goal
 
--- the failures so far are explained, and the values at hand are those of their row
+-- the failures so far are explained, and the cached values are those of their row
 abbrev pub invariant-loop-failure : goal.invariant-loop-failure
 invariant-loop-failure g l =
     let trace = trace_of l.trace in

@@ -2,7 +2,7 @@ use Rattle.std.proofs.Common.{◌≡◌, ◌<◌, ◌-◌}
 use Rattle.blake3.specs.Compression.{place_in}
 use Rattle.blake3.proofs.messages.place_of.Given as goal
 
--- the place is one of the sixteen, and what it is taken to by the rounds left is what the first is by all
+-- the place is below 16, and the remaining rounds take it where all rounds take `index`
 abbrev pub invariant-loop-done : goal.invariant-loop-done
 invariant-loop-done l = record {
   within : l.place < 16;
