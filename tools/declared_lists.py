@@ -1,7 +1,7 @@
-"""Works out what definitions of specs/ say: lists, numbers, terms, records and functions of these.
+"""Evaluates definitions of specs/: lists, numbers, terms, records and functions of these.
 
-It reads so much of antt as the lists that AIRs declare need, and says which word it can't work out. It proves nothing:
-tools/first_difference compares with it what is declared and what is asserted.
+It reads the part of antt that the lists declared by AIRs need, and names a word that it can't evaluate. It proves nothing:
+with it tools/first_difference compares the declared and the asserted list.
 """
 import os
 import re
@@ -18,7 +18,7 @@ class CantTell(Exception):
     pass
 
 
-# ---- Terms and assertions: each made once, so that equal ones are one object
+# ---- Terms and assertions: each is made once, so that equal ones are one object
 
 
 class Made:
@@ -180,7 +180,7 @@ class Parser:
 
 
 class Definition:
-    """A name's clauses, which are read when it is first asked for."""
+    """A name's clauses, which are read when the name is first used."""
 
     def __init__(self, module):
         self.module, self.clauses, self.read = module, [], None
@@ -277,7 +277,7 @@ class Module:
                 return
 
     def find(self, name):
-        """A definition, a constructor, or what std has."""
+        """A definition, a constructor, or a name of std."""
         if name in self.definitions:
             return self.definitions[name]
         if name in self.constructors:
@@ -296,13 +296,13 @@ class Module:
 
 
 def items_of(text):
-    """What a file declares, item by item; those of a module inside stand for themselves."""
+    """The items that a file declares; the items of a module inside are listed too."""
     items, now, indent = [], [], 0
     for line in text.split("\n"):
         if not line.strip() or line.strip().startswith("--"):
             continue
         own = len(line) - len(line.lstrip())
-        # (a bracket that closes stands at the item's own place)
+        # (a closing bracket is indented as the item is)
         if now and (own > indent or line.strip()[0] in "})]"):
             now.append(line)
         else:
@@ -366,7 +366,7 @@ def constructor(name, count):
 
 
 class Later:
-    """What is worked out when it is asked for: a record may hold more than is understood here."""
+    """A value that is evaluated when it is used: a record may hold more than this file understands."""
 
     def __init__(self, evaluator, tree, env):
         self.evaluator, self.tree, self.env = evaluator, tree, env
@@ -408,7 +408,7 @@ class Evaluator:
         return self.field(tree, env)
 
     def field(self, tree, env):
-        # (a constructor may be named behind its type's name)
+        # (a constructor's name may follow its type's name)
         if tree[1] == ("name", "Leaf"):
             return constructor(tree[2], LEAVES[tree[2]])
         holder = self.value(tree[1], env)
@@ -497,7 +497,7 @@ LEAVES = {
 
 
 def evaluate(crates, uses, text, values):
-    """What the text says, where these uses stand above it, and these names have these values."""
+    """The value of the text, with these uses above it and these values for names."""
     module = Module(Files(crates), "", "\n".join(uses))
     tree = Parser(tokens_of(text), module.fixities).expression()
     return Evaluator(module).value(tree, {"R": RING, **values})
