@@ -37,8 +37,8 @@ pub struct Audit<F: SelfExtension> {
 ///
 /// # Errors
 ///
-/// In this order: those of the recording, a fixed column that doesn't fit, those of a row, an improper boundary value,
-/// a place past `usize`, a degree past `usize`. `Memory` may replace any.
+/// In this order: those of the recording, a fixed column that doesn't fit, those of a row, an improper boundary value
+/// or boundary values without rows, a place past `usize`, a degree past `usize`. `Memory` may replace any.
 pub fn audit_air<
     'a,
     F: SelfExtension + 'static,

@@ -66,8 +66,8 @@ fn row_pair<'a, T: Copy>(trace: &'a RowMajorMatrix<T>, row: usize) -> ViewPair<'
 ///
 /// # Errors
 ///
-/// A constraint names an entry that the row lacks (`MissingEntry`, `MissingExtEntry`, `RowOffset`); `Memory`, when a
-/// failure is to be listed.
+/// A constraint names an entry that the row lacks (`MissingEntry`, `MissingExtEntry`, `RowOffset`); there are 2^64
+/// constraints or more (`CountOverflow`); `Memory`, only if a constraint isn't zero.
 pub fn check_row_with_permutation<
     'a,
     F: Field,

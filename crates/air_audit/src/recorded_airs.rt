@@ -61,8 +61,8 @@ fn first_past<A: Copy>(numbers: &[ExprId<A>], total: usize) -> Option<ExprId<A>>
 /// It has no preprocessed trace until [`FlatAir::with_preprocessed`] adds one. Without it, an audit or a check of a row
 /// refuses a preprocessed column that a recorded term names (`MissingEntry`, or `RowOffset` at an offset past 1).
 ///
-/// For the recording of an AIR only `Memory` can fail, and the declared list records that AIR's base constraints. If
-/// you assembled the numbers yourself, the first one outside the base pool is an error (`IndexPastTotal`). The nodes
+/// For the recording of an AIR the only error is `Memory`, and the declared list records that AIR's base constraints.
+/// If you assembled the numbers yourself, the first one outside the base pool is an error (`IndexPastTotal`). The nodes
 /// that the numbers reach are found here, once, which takes memory.
 pub fn recorded_air<F: Field, EF: ExtensionField<F>>(
     recorded: Recorded<F, EF>,
