@@ -1,12 +1,12 @@
 #!/usr/bin/env python3
-"""Writes the tables of crates/test_tables/data/pools that no hand writes: generate_pools.py FOLDER
+"""Writes the generated tables of crates/test_tables/data/pools: generate_pools.py FOLDER
 
 FOLDER/shared_nodes.txt: calls that make nodes again, and a shared node's list.
-FOLDER/generated.txt: calls of base pools and lists of nodes, good ones and damaged ones, by chance with seed 19; ten
+FOLDER/generated.txt: calls of base pools and lists of nodes, good ones and damaged ones, at random with seed 19; ten
 pools.
 
-The wanted answers come from the rules of folding, reading and degrees as they are written here, over a list of nodes that
-is scanned; nothing of the program is used. The same files are written at each run.
+The wanted answers come from the rules of folding, reading and degrees as written here, over a list of nodes that is
+scanned; no part of the program is used. Each run writes the same files.
 """
 import os
 import random
@@ -88,7 +88,7 @@ class Pool:
         return "[" + ",".join(node_json(self.nodes[i], order, self.degrees[i]) for i in order) + "]"
 
     def weighted(self, x, of_leaf, memo=None):
-        """The degree by the weights of the leaves, of which `of_leaf` is handed the words."""
+        """The degree by the weights of the leaves; `of_leaf` takes a leaf's words."""
         memo = {} if memo is None else memo
         if x not in memo:
             kind, *rest = self.nodes[x]
@@ -145,7 +145,7 @@ def some_leaf(r):
 
 
 def read(pool, nodes):
-    """The number that a list's root gets, or the first fault. A node is (kind, x, y, degree) or a text that spells none."""
+    """The number of a list's root, or the first fault. A node is (kind, x, y, degree), or a text that isn't a node."""
     if not nodes:
         return None, "EmptyList"
     ids = []
@@ -218,7 +218,7 @@ def listed(numbers):
 
 
 def degree_lines(r, pool):
-    """The degrees of each name, and those of some names at once: a cached degree takes no turn, else each node one."""
+    """The degrees of each name, and of some names at once: a cached degree takes no turn, else each node takes one."""
     lines = []
     for x, name in pool.names.items():
         c = pool.value(x)
@@ -325,7 +325,7 @@ def numbers():
 
 
 def squares(leaf, count, last):
-    """The list of a leaf that is squared so often, with the degree that the last square states."""
+    """The list of a leaf that is squared this often, with the degree that the last square states."""
     degrees = [1 << power for power in range(1, count)] + [last]
     return list_json([("Leaf", leaf, None, None)] + [("Mul", at, at, d) for at, d in enumerate(degrees)])
 

@@ -1,6 +1,6 @@
-/* Preloaded before a program by tools/growths: counts its requests for memory, and refuses one of them.
-   GROWTHS_REFUSED is the number of the one that is refused, from 1 (none where it is absent);
-   GROWTHS_COUNT names a file of eight bytes that holds the count, also once the program has ended. */
+/* Preloaded into a program by tools/growths: counts its requests for memory, and refuses one of them.
+   GROWTHS_REFUSED is the number of the refused request, from 1 (without it, none is refused);
+   GROWTHS_COUNT names a file of eight bytes that holds the count, also after the program has ended. */
 #include <errno.h>
 #include <fcntl.h>
 #include <stddef.h>
@@ -28,7 +28,7 @@ __attribute__((constructor)) static void begin(void) {
     if (at != MAP_FAILED) count = at;
 }
 
-/* Counts a request, and says whether it is the one that is refused. */
+/* Counts a request, and says whether to refuse it. */
 static int is_refused(void) {
     return count && ++*count == refused;
 }

@@ -9,7 +9,7 @@ mod sealed {
 
 /// A field whose AIRs can be exported: BabyBear, and by features of this crate KoalaBear, Mersenne31 and Goldilocks.
 ///
-/// Nothing else implements it: `air_check` knows these four, and takes each number as one of the field that is named.
+/// Nothing else implements it: `air_check` knows these four, and reads each number as an element of the named field.
 pub trait AuditedField:
     Field + PrimeCharacteristicRing<PrimeSubfield = Self> + sealed::Sealed
 {

@@ -1,7 +1,7 @@
 //! Writes an AIR, as p3-air records it, and its trace as the JSON object that `air_check flat` reads. The AIR is over
 //! BabyBear or, by a feature, over KoalaBear, Mersenne31 or Goldilocks.
 //!
-//! This crate is no part of what is proved: that an object says what the AIR says is tried on examples alone.
+//! This crate is not proved: it is only tried on examples that an object has the AIR's constraints.
 #![forbid(unsafe_code)]
 
 mod error;
@@ -29,27 +29,27 @@ use serde_json::{Map, Value, json};
 /// How an AIR is recorded and its trace audited.
 #[derive(Clone, Debug, Default)]
 pub struct Options {
-    /// The layout that the AIR is recorded by. Without one it is the AIR's own, which has no permutation columns, no
+    /// The layout that the AIR is recorded by. `None` is the AIR's own layout, which has no permutation columns, no
     /// challenges and no permutation values.
     pub layout: Option<AirLayout>,
-    /// Constraints over the extension are left out, and the others numbered without them.
+    /// Leaves out constraints over the extension, and numbers the others without them.
     pub leave_out_extension: bool,
-    /// Rows are checked while the failures so far are fewer.
+    /// A further row is checked only while there are fewer failures than this.
     pub cap: Option<usize>,
-    /// The domain's weight of the transition selector; 0 where it is linear.
+    /// The domain's weight of the transition selector; 0 if it is linear.
     pub transition_weight: usize,
 }
 
 /// Writes the object for an AIR without constraints over an extension: its constraints, recorded by its own layout,
-/// its preprocessed table, periodic columns and boundary cells, and this trace with these public values.
+/// its preprocessed trace, periodic columns and boundary values, and this trace with these public values.
 ///
-/// The trace and the table are written as they are: where they don't fit the AIR or each other, `air_check` says so.
-/// Panics where p3-air does, which is where the AIR reads what its layout lacks.
+/// The trace and the preprocessed trace are written as they are: if they don't fit the AIR or each other, `air_check`
+/// says so. Panics where p3-air does: where the AIR reads an entry that its layout lacks.
 ///
 /// # Errors
 ///
-/// `PreprocessedWidth` if the AIR's `preprocessed_width()` isn't the width of its table, or 0 where it has none: p3-air
-/// doesn't compare them, and by another width it records other constraints than hold of the table.
+/// `PreprocessedWidth` if the AIR's `preprocessed_width()` isn't the width of its preprocessed trace, or 0 without one:
+/// p3-air doesn't compare them, and by another width it records other constraints than those of the preprocessed trace.
 /// `ExtensionConstraints` if the AIR asserts over an extension.
 pub fn export<F, A>(
     air: &A,
@@ -65,13 +65,13 @@ where
     Ok(object_of(air, trace, public_values, &recorded, &options))
 }
 
-/// Does what `export` does, with options, for an AIR that is recorded with extension `EF` (the field itself, where it
-/// has none). The AIR's field is the prime field below `EF`.
+/// Exports as `export` does, with options, an AIR that is recorded with extension `EF` (the field itself if it has
+/// none). The AIR's field is the prime field below `EF`.
 ///
 /// # Errors
 ///
-/// As `export`, with these differences: the table's width is compared with the width in the layout, where the options
-/// have one; and `ExtensionConstraints` doesn't come where those constraints are left out.
+/// As `export`, with these differences: if the options have a layout, the width is compared with the layout's; and
+/// there is no `ExtensionConstraints` if the options leave those constraints out.
 pub fn export_with<EF, A>(
     air: &A,
     trace: &RowMajorMatrix<EF::PrimeSubfield>,
@@ -87,8 +87,8 @@ where
     Ok(object_of(air, trace, public_values, &recorded, options))
 }
 
-/// Does what `export_with` does, with the labels of the constraints: the AIR asserts on a [`LabellingBuilder`], which is
-/// a `NamedAirBuilder`. `air_check` then writes a failing constraint's label beside its number.
+/// Exports as `export_with` does, with the labels of the constraints: the AIR asserts on a [`LabellingBuilder`], which
+/// is a `NamedAirBuilder`. `air_check` then writes a failing constraint's label beside its number.
 ///
 /// # Errors
 ///
@@ -108,13 +108,13 @@ where
     Ok(object_of(air, trace, public_values, &recorded, options))
 }
 
-/// What is recorded of an AIR: its constraints over the base field, and their labels, or none.
+/// The recording of an AIR: its constraints over the base field, and their labels, or none.
 struct Recorded<F> {
     constraints: Vec<SymbolicExpression<F>>,
     labels: Vec<String>,
 }
 
-/// The object for an AIR over `F` of which this is recorded.
+/// The object for an AIR over `F` with this recording.
 fn object_of<F, A>(
     air: &A,
     trace: &RowMajorMatrix<F>,
@@ -166,7 +166,7 @@ where
     })
 }
 
-/// The same with their labels.
+/// The recorded constraints over the base field of an AIR, with their labels.
 fn recorded_with_labels<F, EF, A>(air: &A, options: &Options) -> Result<Recorded<F>, ExportError>
 where
     F: AuditedField,
@@ -185,7 +185,7 @@ where
     })
 }
 
-/// The layout that an AIR is recorded by, if its width is that of the AIR's table.
+/// The layout that an AIR is recorded by, if its preprocessed width is that of the AIR's preprocessed trace.
 fn layout_of<F, A>(air: &A, options: &Options) -> Result<AirLayout, ExportError>
 where
     F: AuditedField,
@@ -198,7 +198,7 @@ where
     Ok(layout)
 }
 
-/// Refuses constraints over the extension, unless they are to be left out.
+/// Refuses constraints over the extension, unless the options leave them out.
 fn refuse_extension(count: usize, options: &Options) -> Result<(), ExportError> {
     if count > 0 && !options.leave_out_extension {
         return Err(ExportError::ExtensionConstraints(count));
@@ -206,9 +206,9 @@ fn refuse_extension(count: usize, options: &Options) -> Result<(), ExportError> 
     Ok(())
 }
 
-/// Refuses another width than the table's. The width says which columns the AIR sees while it is recorded, and the
-/// table which it sees while it is checked: an AIR that goes through the columns that it sees would have other
-/// constraints in the object than on its rows, and nothing would say so.
+/// Refuses another width than the preprocessed trace's. While it is recorded the AIR sees this number of columns, and
+/// while it is checked those of the preprocessed trace. So an AIR that loops over the columns that it sees would have
+/// other constraints in the object than on its rows, unnoticed.
 fn compare_widths<F: AuditedField>(
     recorded: usize,
     table: Option<&RowMajorMatrix<F>>,
@@ -228,7 +228,7 @@ fn periodic_columns<F: AuditedField, A: BaseAir<F>>(air: &A) -> Value {
         .collect()
 }
 
-/// A cell of the trace that is to hold a public value.
+/// A boundary value: a cell of the trace that must hold a public value.
 fn cell(cell: &BoundaryPublic) -> Value {
     let end = match cell.end {
         BoundaryEnd::First => "First",
@@ -237,7 +237,7 @@ fn cell(cell: &BoundaryPublic) -> Value {
     json!({"column": cell.column, "end": end, "public_value": cell.public_value})
 }
 
-/// Adds the field's name, where it isn't what its absence means.
+/// Adds the field's name, unless it is the default.
 fn insert_field<F: AuditedField>(object: &mut Map<String, Value>) {
     if F::NAME != <BabyBear as AuditedField>::NAME {
         insert(object, "field", json!(F::NAME));
@@ -255,7 +255,7 @@ fn insert_matrix<F: AuditedField>(
     insert(object, values, numbers(&matrix.values));
 }
 
-/// Adds the cap and the weight, where they aren't what their absence means.
+/// Adds the cap and the weight, unless they are the defaults.
 fn insert_options(object: &mut Map<String, Value>, options: &Options) {
     if let Some(cap) = options.cap {
         insert(object, "cap", json!(cap));
@@ -269,7 +269,7 @@ fn insert_options(object: &mut Map<String, Value>, options: &Options) {
     }
 }
 
-/// Adds the labels, one a constraint, if there is any.
+/// Adds the labels, one for each constraint, if there are any.
 fn insert_labels(object: &mut Map<String, Value>, labels: &[String]) {
     if labels.iter().any(|label| !label.is_empty()) {
         insert(object, "labels", json!(labels));

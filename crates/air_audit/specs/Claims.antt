@@ -1,4 +1,4 @@
--- The words in which an author claims what a trace says that a check or an audit lets pass.
+-- The words in which an author states a claim about a trace that passes a check or an audit.
 pub use Rattle.air_field.specs.Assignment.{row_assignment}
 pub use Rattle.air_field.specs.Grid.{Grid}
 pub use Rattle.air_report.specs.Report.{plain_trace}

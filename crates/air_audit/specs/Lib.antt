@@ -1,6 +1,6 @@
--- What the clauses of all that air_audit passes on, an AIR's declaration and the goal of a refusal speak in.
+-- The words of the clauses of all that air_audit re-exports, of an AIR's declaration, and of the goals of errors.
 
--- rings and fields, terms and what they are on a row, matrices
+-- rings and fields, terms and their values on a row, matrices
 pub use Rattle.air_field.specs.Ring
 pub use Rattle.air_field.specs.RingOps
 pub use Rattle.air_field.specs.Algebra
@@ -29,7 +29,7 @@ pub use Rattle.air_field.specs.Grid
 pub use Rattle.air_field.specs.Matrix
 pub use Rattle.air_field.specs.declared.errors.RingError
 pub use Rattle.air_field.specs.declared.errors.MatrixError
--- entries, windows, boundary cells, periodic columns, names, refusals
+-- entries, windows, boundary values, periodic columns, names, errors
 pub use Rattle.air_core.specs.Entries
 pub use Rattle.air_core.specs.ExtEntries
 pub use Rattle.air_core.specs.declared.variables.entry.BaseEntry
@@ -86,7 +86,7 @@ pub use Rattle.air_json.specs.ExtLeaves as ExtLeafSpellings
 pub use Rattle.air_json.specs.Boundaries as BoundarySpellings
 pub use Rattle.air_json.specs.WholeNumbers
 pub use Rattle.air_json.specs.declared.errors.FlatError
--- an AIR's declaration, and what its calls to a builder assert and refuse
+-- an AIR's declaration, and the assertions and errors of its calls to a builder
 pub use Rattle.air_builder.specs.Assertion
 pub use Rattle.air_builder.specs.Notation
 pub use Rattle.air_builder.specs.Declaration

@@ -9,7 +9,7 @@ use Rattle.air_report.specs.Debug.{RowData, nonzero_by}
 use Rattle.air_report.specs.Report.{failure_place, plain_trace}
 use Rattle.air_report.specs.declared.debug.failure.ConstraintFailure.{ConstraintFailure}
 
--- the row of a permutation trace and the one after it around the end, with the challenges and the exposed values
+-- a row of a permutation trace and the next one (after the last comes the first), the challenges and the exposed values
 abbrev pub permutation_at : {E : Type 0} → Grid E → List E → List E → ℕ → PermutationData E
 permutation_at trace challenges exposed i = record {
   current = row_or_none (slice_get trace.rows i);
@@ -18,7 +18,7 @@ permutation_at trace challenges exposed i = record {
   exposed = exposed;
 }
 
--- the row of a trace with these public values and this permutation data, and nothing beside
+-- a row of a trace with these public values and this permutation data, without preprocessed trace and periodic columns
 abbrev pub row_with_permutation : {F E : Type 0} → CommRing F → Grid F → List F → PermutationData E → ℕ → RowData F E
 row_with_permutation R main public others i = record {
   row = i;

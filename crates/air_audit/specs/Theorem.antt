@@ -1,4 +1,4 @@
--- The audit theorem: what an audit answers, and what it refuses.
+-- The audit theorem: the result of an audit, and its errors.
 use Rattle.std.specs.Prelude.{◌≡◌, ◌≢◌, ◌⊎◌, ℕ, zero, suc, ◌+◌, ◌-◌, ◌*◌, ◌%◌, ◌^◌, ◌<◌, ◌≤◌, ◌==◌, ⊤, Bool, not, if◌then◌else◌, List, [], ◌∷◌, ◌++◌, length, map, take, drop, All, Some, IfSome, unwrap_or, slice_get, slice_index_or, string_bytes}
 use Rattle.std.specs.Int.{IsPowerOfTwo}
 use Rattle.std.specs.Option.{option_map}
@@ -39,16 +39,15 @@ use Rattle.air_report.specs.Report.{all_places, assertion_value}
 use Rattle.air_report.specs.declared.checks.report.ConstraintReport.{ConstraintReport}
 use Rattle.air_audit.specs.declared.audit.Audit.{Audit}
 
--- ---- What a constraint is on a row
+-- ---- The value of a constraint on a row
 
--- the entry of a table at a row and a column, z where there is none
+-- the entry of a table at a row and a column, z if there is none
 abbrev pub entry_at : {F : Type 0} → F → Grid F → ℕ → ℕ → F
 entry_at z table row column = slice_index_or (unwrap_or (slice_get table.rows row) []) column z
 
--- What a leaf reads on row i. A column reads row i at offset 0, and at offset 1 the row after it,
--- which after the last is the first; a periodic column reads its value at i modulo its period. The
--- selectors are one on the first row, on the last row, and on all rows but the last. What isn't
--- there reads as zero.
+-- The element that a leaf reads on row i. A column reads row i at offset 0, and the next row at offset 1 (after the last
+-- comes the first); a periodic column reads its value at i modulo its period. The selectors are one on the first row, on
+-- the last row, and on all rows but the last. A missing entry reads as zero.
 abbrev pub read_at : {F : Type 0} → CommRing F → Instance F → ℕ → Leaf → F
 read_at r x i (main zero c) = entry_at r.zero x.main i c
 read_at r x i (main (suc zero) c) = entry_at r.zero x.main ((i + 1) % row_count x) c
@@ -69,9 +68,9 @@ read_at r x i (permutation_value k) = r.zero
 abbrev pub value_on : {F : Type 0} → CommRing F → Instance F → ℕ → Assertion F → F
 value_on r x i t = assertion_value r (read_at r x i) t
 
--- ---- What is named, and what fits
+-- ---- Entries that exist, and data that fits
 
--- how many entries of each kind there are beside a main trace of this width, with so many public values
+-- the number of entries of each kind, with a main trace of this width and this number of public values
 abbrev pub shape_with : {F : Type 0} → Declaration F → ℕ → ℕ → Shape
 shape_with air width values = record {
   main_width = width;
@@ -83,11 +82,11 @@ shape_with air width values = record {
   permutation_values = 0;
 }
 
--- each entry that a declared constraint names is one that the AIR says it has
+-- each entry that a declared constraint names is one that the AIR declares
 abbrev pub NamesOwnEntries : {F : Type 0} → Declaration F → Type 0
 NamesOwnEntries air = NoneMissing (IsMissing (shape_with air air.width air.num_public_values)) air.constraints
 
--- where there are rows, they have each entry that a declared constraint names
+-- the rows, if any, have each entry that a declared constraint names
 abbrev pub RowsHaveEntries : {F : Type 0} → Instance F → Type 0
 RowsHaveEntries x = 0 < row_count x → NoneMissing (IsMissing (shape_with x.air x.main.width (length x.public))) x.air.constraints
 
@@ -95,22 +94,22 @@ RowsHaveEntries x = 0 < row_count x → NoneMissing (IsMissing (shape_with x.air
 abbrev pub IsPeriodOf : ℕ → ℕ → Type 0
 IsPeriodOf rows period = IsPowerOfTwo period × (rows % period ≡ 0)
 
--- the preprocessed table is as high as the trace
+-- the preprocessed trace is as high as the main trace
 abbrev pub TableFits : {F : Type 0} → Instance F → Type 0
 TableFits x = IfSome x.air.preprocessed (λ table. length table.rows ≡ row_count x)
 
--- the preprocessed table is as high as the trace, and the periodic columns repeat within it
+-- the preprocessed trace is as high as the main trace, and the periods are powers of two that divide its height
 pub record FixedColumnsFit {F : Type 0} (x : Instance F) : Type 0 where
   pub table_fits : TableFits x
   pub periods_fit : All (IsPeriodOf (row_count x)) (periods_of x.air.periodic)
 
--- a cell is in the trace, holds a public value that is there, and no earlier cell is at its column and end
+-- a boundary value is in the trace, its public value exists, and no earlier one has its column and end
 pub record IsProperCell {F : Type 0} (x : Instance F) (earlier : List BoundaryPublic) (cell : BoundaryPublic) : Type 0 where
   pub column_in : cell.column < x.main.width
   pub value_in : cell.public_value < length x.public
   pub is_new : All (λ c. c.column ≡ cell.column → c.end ≢ cell.end) earlier
 
--- each of the first n cells is proper
+-- each of the first n boundary values is proper
 abbrev pub AreProperBelow : {F : Type 0} → Instance F → ℕ → Type 0
 AreProperBelow x n = (k : ℕ) (cell : BoundaryPublic) → k < n → slice_get x.air.cells k ≡ Some cell → IsProperCell x (take k x.air.cells) cell
 
@@ -121,7 +120,7 @@ pub record FitsDeclaration {F : Type 0} (x : Instance F) : Type 0 where
   pub cells : AreProperBelow x (length x.air.cells)
   pub rows_for_cells : x.air.cells ≢ [] → 0 < row_count x
 
--- ---- What is recorded
+-- ---- Recordings
 
 -- the term of a leaf of an extension pool over these base nodes
 abbrev pub ext_leaf_term : {F E : Type 0} → Basis F E → List (SymbolicExpr (BaseLeaf F)) → ExtLeaf F E → Term F
@@ -147,53 +146,52 @@ base_constraints k [] = []
 base_constraints k (Base t ∷ ts) = (k, t) ∷ base_constraints (k + 1) ts
 base_constraints k (Extension t ∷ ts) = base_constraints (k + 1) ts
 
--- its extension constraints
+-- the extension constraints of a list that begins at place k, each with its place
 abbrev pub ext_constraints : {F : Type 0} → ℕ → List (Assertion F) → List (ℕ × Term F)
 ext_constraints k [] = []
 ext_constraints k (Base t ∷ ts) = ext_constraints (k + 1) ts
 ext_constraints k (Extension t ∷ ts) = (k, t) ∷ ext_constraints (k + 1) ts
 
--- These terms record the declared constraints: the k-th base term the k-th base constraint, and the
--- k-th extension term the k-th extension constraint, and there are as many of each. A term that
--- records another one has the same polynomial, the same value and no greater degree, whatever
--- coefficients, values and weights the leaves have.
+-- These terms record the declared constraints: the k-th base term the k-th base constraint, the k-th extension term the
+-- k-th extension constraint, and there are as many of each. A term that records another one has the same polynomial, the
+-- same value and no greater degree, for all coefficients, values and weights of the leaves.
 pub record RecordConstraints {F : Type 0} (r : CommRing F) (air : Declaration F) (base ext : List (Term F)) : Type 0 where
   pub each_base : AllZip (λ u c. RecordsTerm (self_algebra r) u c.1)
       base (base_constraints 0 air.constraints)
   pub each_ext : AllZip (λ u c. RecordsTerm (self_algebra r) u c.1)
       ext (ext_constraints 0 air.constraints)
 
--- At the place of each declared base constraint, and nowhere else, a base expression is recorded,
--- and it records that constraint; at the place of each extension constraint an extension expression.
+-- At the place of each declared base constraint, and nowhere else, a base expression is recorded, and it records that
+-- constraint; at the place of each extension constraint an extension expression.
 pub record RecordsEach {F : Type 0} (r : CommRing F) (basis : Basis F F) (air : Declaration F) (audit : Audit F) : Type 0 where
   pub base_places : audit.layout.base_indices.items ≡ map (λ c. c.0) (base_constraints 0 air.constraints)
   pub ext_places : audit.layout.ext_indices.items ≡ map (λ c. c.0) (ext_constraints 0 air.constraints)
   pub terms : RecordConstraints r air (recorded_base audit.recorded) (recorded_ext basis audit.recorded)
 
--- The recorded expressions are numbers of the pool, which its type says is one, and mean there the
--- declared constraints of their kind, in order: by the laws of a commutative ring, in any algebra.
+-- The recorded numbers are in the pool (which is one by its type), and their terms stand for the declared constraints of
+-- their kind, in order: by the laws of a commutative ring, in any algebra.
 pub record MeansEach {F : Type 0} (r : CommRing F) (basis : Basis F F) (air : Declaration F) (recorded : Recording F F) : Type 0 where
   pub base_here : All (λ i. i < length recorded.pool.base.nodes) recorded.base
   pub ext_here : All (λ i. i < length recorded.pool.nodes) recorded.ext
   pub base : AllZip (λ u c. Simplifies r u c.1) (recorded_base recorded) (base_constraints 0 air.constraints)
   pub ext : AllZip (λ u c. Simplifies r u c.1) (recorded_ext basis recorded) (ext_constraints 0 air.constraints)
 
--- ---- What is reported
+-- ---- Reports
 
--- all pairs of a row and a place at which the declared constraint isn't zero: by rows, and in a row by places
+-- all pairs of a row and a place at which the declared constraint isn't zero: by rows, and in each row by places
 abbrev pub nonzero_places : {F : Type 0} → CommRing F → (F → F → Bool) → Instance F → List (ℕ × ℕ)
 nonzero_places r eq x =
     map (λ p. (p.0, p.1.0)) (filter (λ p. not (eq (assertion_value r (read_at r x p.0) p.1.1) r.zero)) (all_places (row_count x) x.air.constraints))
 
--- how many constraints a row has, 0 without a row
+-- the number of constraints, 0 without a row
 abbrev pub constraints_per_row : {F : Type 0} → Instance F → ℕ
 constraints_per_row x = if row_count x == 0 then 0 else length x.air.constraints
 
--- the cells that don't hold their public values, each with its number in the list of cells
+-- the boundary values whose cells don't hold their public values, each with its number in the list of boundary values
 abbrev pub violations : {F : Type 0} → CommRing F → (F → F → Bool) → Instance F → List (ℕ × BoundaryPublic)
 violations r eq x = filter (λ c. not (eq (entry_at r.zero x.main (row_of c.1.end (row_count x)) c.1.column) (slice_index_or x.public c.1.public_value r.zero))) (enumerate_from 0 x.air.cells)
 
--- where they are listed: in the cell's row, at the place that is its number after all constraints
+-- the places where these are listed: the row of the cell, and the boundary value's number after all constraints
 abbrev pub violated_cells : {F : Type 0} → CommRing F → (F → F → Bool) → Instance F → List (ℕ × ℕ)
 violated_cells r eq x = map (λ c. (row_of c.1.end (row_count x), constraints_per_row x + c.0)) (violations r eq x)
 
@@ -201,21 +199,21 @@ violated_cells r eq x = map (λ c. (row_of c.1.end (row_count x), constraints_pe
 abbrev pub failure_places : ConstraintReport → List (ℕ × ℕ)
 failure_places report = map (λ f. (f.row, f.constraint)) report.failures.items
 
--- the failures from number n on have the labels of these cells, in order
+-- the failures from number n on have the labels of these boundary values, in order
 abbrev pub LabelsFrom : ℕ → List (ℕ × BoundaryPublic) → ConstraintReport → Type 0
 LabelsFrom n cells report = map (λ f. option_map (λ s. string_bytes s) f.label) (drop n report.failures.items) ≡ map (λ c. Some (cell_label c.1)) cells
 
--- ---- What degree is inferred
+-- ---- The inferred degree
 
--- How a domain counts over a trace: what each leaf weighs in the degree of a term, the greatest
--- degree of its polynomial, and the greatest degree that degree d allows a constraint's polynomial.
+-- A domain over a trace: the weight of each leaf in the degree of a term, the greatest degree of the leaf's polynomial,
+-- and the greatest degree that degree d allows a constraint's polynomial.
 pub record Domain : Type 0 where
   pub weight : Leaf → ℕ
   pub leaf_degree : Leaf → ℕ
   pub bound : ℕ → ℕ
 
--- The domain in which the transition selector weighs w. For 0 it is linear, and degrees are those of
--- polynomials over the rows; for w from 1 it counts as w columns, and degrees are counted in columns.
+-- The domain in which the transition selector has weight w. For 0 it is linear, and degrees are those of polynomials
+-- over the rows; for w from 1 it counts as w columns, and degrees are counted in columns.
 abbrev pub domain : {F : Type 0} → ℕ → Instance F → Domain
 domain zero x = record {
   weight = trace_weight (row_count x) (periods_of x.air.periodic);
@@ -228,9 +226,9 @@ domain (suc w) x = record {
   bound = λ d. d * (row_count x - 1);
 }
 
--- The degree of terms in that domain: for weight 0 that of a quotient of the greatest polynomial by
--- one that vanishes on all rows, and without periodic columns no less than the greatest number of
--- columns in a product; for a weight from 1 the greatest degree counted in columns.
+-- The degree of terms in that domain. For weight 0 it is the degree of the quotient of the greatest polynomial by one
+-- that vanishes on all rows, and without periodic columns at least the greatest number of columns in a product; for a
+-- weight from 1 it is the greatest degree counted in columns.
 abbrev pub degree_in : {F : Type 0} → ℕ → Instance F → List (Term F) → ℕ
 degree_in zero x ts = inferred_degree (row_count x) (periods_of x.air.periodic) ts
 degree_in (suc w) x ts = greatest_degree (transition_weight (suc w)) ts
@@ -244,8 +242,7 @@ pub record IsLeast (P : ℕ → Type 0) (d : ℕ) : Type 0 where
 abbrev pub BoundsDegrees : {F : Type 0} → Domain → List (Term F) → ℕ → Type 0
 BoundsDegrees dom ts d = All (λ t. degree_by dom.leaf_degree t ≤ dom.bound d) ts
 
--- in a domain degree d bounds the degrees of the terms' polynomials, wherever each leaf's polynomial
--- has at most its degree
+-- in a domain degree d bounds the degrees of the terms' polynomials, if each leaf's polynomial has at most its degree
 abbrev pub BoundsPolynomials : {F : Type 0} → CommRing F → Domain → List (Term F) → ℕ → Type 0
 BoundsPolynomials {F = F} r dom ts d =
     (s : Leaf → List F)
@@ -253,10 +250,9 @@ BoundsPolynomials {F = F} r dom ts d =
     → HasDegreeAtMost r (polynomial (self_algebra r) s (leaf_term l)) (dom.leaf_degree l))
     → All (λ t. HasDegreeAtMost r (polynomial (self_algebra r) s t) (dom.bound d)) ts
 
--- ---- What is refused
+-- ---- Errors
 
--- A constraint names an entry that isn't there: the error names the entry, or its row, or says that
--- there is no permutation trace.
+-- A constraint names a missing entry: the error names the entry, or its row, or says that there is no permutation trace.
 abbrev pub NamesMissing : {F : Type 0} → Shape → Declaration F → AirError → Type 0
 NamesMissing shape air (MissingEntry e i) = IsMissing shape (entry_leaf e i) × PartOf (leaf_term (entry_leaf e i)) air.constraints × IsOfWindow e
 NamesMissing shape air (MissingExtEntry e i) = IsMissing shape (ext_entry_leaf e i) × PartOf (leaf_term (ext_entry_leaf e i)) air.constraints
@@ -264,15 +260,15 @@ NamesMissing shape air (RowOffset o) = (l : Leaf) × IsPastWindow o l × IsMissi
 NamesMissing shape air NoPermutation = (o : ℕ) × (i : ℕ) × IsMissing shape (permutation o i) × PartOf (leaf_term (permutation o i)) air.constraints
 NamesMissing shape air _ = ⊥
 
--- The recording: want of memory; a part of a constraint has a cached degree past `usize`; a
--- constraint names an entry that the AIR hasn't.
+-- The recording's errors: `Memory`; a part of a constraint has a cached degree past `usize`; a constraint names an entry
+-- that the AIR doesn't declare.
 abbrev pub RecordingRefuses : {F : Type 0} → Declaration F → AirError → Type 0
 RecordingRefuses air Memory = ⊤
 RecordingRefuses {F = F} air DegreeOverflow = (t : Term F) × (2 ^ 64 ≤ degree_by cached_weight t) × PartOf t air.constraints
 RecordingRefuses air e = NamesMissing (shape_with air air.width air.num_public_values) air e
 
--- The recording answers: the AIR has each entry that its constraints name, and some terms which
--- record these have cached degrees within `usize`.
+-- The recording succeeds: the AIR has each entry that its constraints name, and some terms that record these constraints
+-- have cached degrees within `usize`.
 pub record IsRecordable {F : Type 0} (r : CommRing F) (air : Declaration F) : Type 0 where
   pub there : NamesOwnEntries air
   pub base : List (Term F)
@@ -280,8 +276,8 @@ pub record IsRecordable {F : Type 0} (r : CommRing F) (air : Declaration F) : Ty
   pub recorded : RecordConstraints r air base ext
   pub within : greatest_degree cached_weight (base ++ ext) < 2 ^ 64
 
--- The fixed columns: a table of another height; the first period that is no power of two or doesn't
--- divide the number of rows.
+-- The errors of fixed columns: a preprocessed trace of another height; the first period that isn't a power of two or
+-- doesn't divide the number of rows.
 abbrev pub FixedColumnsRefuse : {F : Type 0} → Instance F → AirError → Type 0
 FixedColumnsRefuse {F = F} x (PreprocessedHeight n h) =
     ((table : Grid F) × (x.air.preprocessed ≡ Some table) × (n ≡ length table.rows)) × (h ≡ row_count x) × (n ≢ h)
@@ -292,13 +288,13 @@ FixedColumnsRefuse x (PeriodDoesNotDivide i n h) =
     × IsPowerOfTwo n × (h ≡ row_count x) × (h % n ≢ 0)
 FixedColumnsRefuse x _ = ⊥
 
--- The rows, where there are any: more constraints than `usize` counts; a constraint names an entry
--- that the trace hasn't.
+-- The errors of rows, if there are any: more constraints than `usize` counts; a constraint names an entry that the trace
+-- lacks.
 abbrev pub EvaluationRefuses : {F : Type 0} → Instance F → AirError → Type 0
 EvaluationRefuses x CountOverflow = (0 < row_count x) × (2 ^ 64 ≤ length x.air.constraints)
 EvaluationRefuses x e = (0 < row_count x) × NamesMissing (shape_with x.air x.main.width (length x.public)) x.air e
 
--- a cell's first fault
+-- a boundary value's first fault
 abbrev pub IsFaultOfCell : {F : Type 0} → Instance F → List BoundaryPublic → BoundaryPublic → BoundaryIoError → Type 0
 IsFaultOfCell x earlier cell (ColumnOutOfRange column width) =
     (x.main.width ≤ cell.column) × (column ≡ cell.column) × (width ≡ x.main.width)
@@ -309,28 +305,28 @@ IsFaultOfCell x earlier cell (DuplicateCell column end) =
     × ((k : ℕ) × (c : BoundaryPublic) × (slice_get earlier k ≡ Some c) × (c.column ≡ cell.column) × (c.end ≡ cell.end))
     × (column ≡ cell.column) × (end ≡ cell.end)
 
--- The cells: the first that isn't proper; proper cells, and no row.
+-- The errors of boundary values: the first that isn't proper; proper ones, and no row.
 abbrev pub CellsRefuse : {F : Type 0} → Instance F → AirError → Type 0
 CellsRefuse x (Boundary fault) =
     (k : ℕ) × (cell : BoundaryPublic) × (slice_get x.air.cells k ≡ Some cell) × AreProperBelow x k × IsFaultOfCell x (take k x.air.cells) cell fault
 CellsRefuse x EmptyTrace = AreProperBelow x (length x.air.cells) × (x.air.cells ≢ []) × (row_count x ≡ 0)
 CellsRefuse x _ = ⊥
 
--- The report: the place of a violated cell passes `usize`.
+-- The report's error: the place of a violated boundary value passes `usize`.
 abbrev pub ReportRefuses : {F : Type 0} → CommRing F → (F → F → Bool) → Instance F → AirError → Type 0
 ReportRefuses r eq x CountOverflow =
     (k : ℕ) × (c : ℕ × BoundaryPublic) × (slice_get (violations r eq x) k ≡ Some c) × (2 ^ 64 ≤ constraints_per_row x + c.0)
 ReportRefuses r eq x _ = ⊥
 
--- some terms that record the declared constraints have a degree past `usize`, as the domain counts
+-- some terms that record the declared constraints have a degree past `usize`, by the domain's weights
 pub record DegreeOverflows {F : Type 0} (r : CommRing F) (w : ℕ) (x : Instance F) : Type 0 where
   pub base : List (Term F)
   pub ext : List (Term F)
   pub recorded : RecordConstraints r x.air base ext
   pub past : 2 ^ 64 ≤ greatest_degree (domain w x).weight (base ++ ext)
 
--- The first refusal: of the recording, the fixed columns, the rows, the cells, the report, the
--- degree. Each line says what went before it.
+-- The first error: of the recording, the fixed columns, the rows, the boundary values, the report, the degree. Each line
+-- states the conditions that hold before it.
 abbrev pub AuditRefuses : {F : Type 0} → CommRing F → (F → F → Bool) → Instance F → ℕ → AirError → Type 0
 AuditRefuses r eq x w e =
     RecordingRefuses x.air e

@@ -1,4 +1,4 @@
-//! The audit: an AIR is recorded and checked at once, so that what is recorded is what is tested.
+//! The audit: an AIR is recorded and checked in one call, so that the recorded constraints are the tested ones.
 ghost use Rattle.std.specs.Prelude.{◌≡◌, ◌≤◌, ◌<◌, ◌^◌, ◌++◌, length, IfOk, IfErr, OnOk};
 ghost use Rattle.air_field.specs.Degree.{greatest_degree};
 ghost use Rattle.air_audit.specs.Theorem.{instance, row_count, NamesOwnEntries, FitsDeclaration, RecordsEach, MeansEach, terms_in, failure_places, nonzero_places, violations, violated_cells, constraints_per_row, LabelsFrom, domain, degree_in, BoundsDegrees, BoundsPolynomials, IsLeast, AuditRefuses};
@@ -19,21 +19,26 @@ pub struct Audit<F: SelfExtension> {
     pub recorded: Recorded<F, F>,
     /// The places of the recorded constraints among all of them.
     pub layout: ConstraintLayout,
-    /// Where the constraints and the boundary cells fail.
+    /// Where the constraints and the boundary values fail.
     pub report: ConstraintReport,
-    /// The degree that is inferred for the trace's height, in the domain of the given weight for the transition
-    /// selector.
+    /// The degree inferred for the trace's height, in the domain of the given weight for the transition selector.
     pub degree: usize,
 }
 
 /// Records an AIR by its own layout, checks a trace of it without a cap, and infers the degree of its constraints.
 ///
-/// What is recorded for a prover is what is tested here: at each place the recorded constraint has the declared one's
-/// polynomial, and so on every row the value that the report is about.
+/// The constraints recorded for a prover are the tested ones: at each place the recorded constraint has the declared
+/// one's polynomial, so on every row it has the value that the report is about.
 ///
-/// `transition_weight` is what the transition selector weighs in the prover's domain: 0 where it is a linear
-/// polynomial, otherwise the number of columns that it counts as. For N rows, and 0, each recorded polynomial has
-/// degree at most `degree` (N - 1) + 1; for a weight from 1, at most `degree` (N - 1).
+/// `transition_weight` is the transition selector's weight in the prover's domain: 0 if it is a linear polynomial,
+/// otherwise the number of columns that it counts as. For N rows (2 or more) and weight 0, each recorded polynomial has
+/// degree at most `degree` (N - 1) + 1; for a weight from 1, at most `degree` (N - 1). Both hold if the leaves'
+/// polynomials have at most the domain's degrees.
+///
+/// # Errors
+///
+/// In this order: those of the recording, a fixed column that doesn't fit, those of a row, an improper boundary value
+/// or boundary values without rows, a place past `usize`, a degree past `usize`. `Memory` may replace any.
 pub fn audit_air<
     'a,
     F: SelfExtension + 'static,
@@ -56,7 +61,8 @@ pub fn audit_air<
     ensures recorded { IfOk result (RecordsEach F.ring F.basis (A.declaration air.now)) }
     ensures pool { IfOk result (λ a. MeansEach F.ring F.basis (A.declaration air.now) a.recorded) }
 
-    // The failures are the rows and places at which the declared constraint isn't zero, then the violated cells.
+    // The failures are the rows and places at which the declared constraint isn't zero, then the violated boundary
+    // values.
     ensures report { let x = instance (A.declaration air.now) main.now public_values.now in
         IfOk result (λ a. failure_places a.report
         ≡ nonzero_places F.ring F.eq x ++ violated_cells F.ring F.eq x) }
@@ -67,8 +73,8 @@ pub fn audit_air<
         IfOk result (λ a. (a.report.total_rows ≡ row_count x)
         × (a.report.total_constraints_per_row ≡ constraints_per_row x)) }
 
-    // The degree is that of the recorded terms in the domain. For two rows and more it bounds their polynomials
-    // wherever the leaves' are within theirs; for three and more it is the least that bounds the terms' degrees.
+    // The degree is that of the recorded terms in the domain. From two rows on it bounds their polynomials' degrees, if
+    // the leaves' are within theirs; from three rows on it is the least that bounds the terms' degrees.
     ensures degree { let x = instance (A.declaration air.now) main.now public_values.now in
         IfOk result (λ a. (a.degree ≡ degree_in transition_weight x (terms_in F.basis a.recorded))
         × (greatest_degree (domain transition_weight x).weight (terms_in F.basis a.recorded)
@@ -80,15 +86,15 @@ pub fn audit_air<
         IfOk result (λ a. 3 ≤ row_count x → IsLeast (BoundsDegrees (domain transition_weight x)
         (terms_in F.basis a.recorded)) a.degree) }
 
-    // The first refusal: of the recording, the fixed columns, the rows, the cells, the report, the degree.
+    // The first error: of the recording, the fixed columns, the rows, the boundary values, the report, the degree.
     ensures refused { IfErr result (AuditRefuses F.ring F.eq
         (instance (A.declaration air.now) main.now public_values.now) transition_weight) }
 {
     audit_air_with_cap(alloc, air, main, public_values, None, transition_weight)
 }
 
-/// The audit of `audit_air` with a check that runs no further row, and lists no further cell, once it has
-/// `max_failures` failures; a row that runs is reported whole.
+/// Audits as `audit_air` does, but the check stops once it has `max_failures` failures: it then runs no further row and
+/// lists no further boundary value. All failures of a row that runs are listed.
 pub fn audit_air_with_cap<
     'a,
     F: SelfExtension + 'static,

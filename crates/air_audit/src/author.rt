@@ -1,4 +1,4 @@
-//! Constraints as values: what an author writes an AIR with. `use p3_air::author::*;` brings all that its file names.
+//! Constraints as values, with which an author writes an AIR. `use p3_air::author::*;` imports all that its file needs.
 
 pub use air_author::{
     All, Already, BoolCheck, Boolean, Challenge, Claim, Condition, Constant, Constraint, Current,

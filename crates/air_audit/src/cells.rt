@@ -1,8 +1,8 @@
-//! Cells of a row: numbers with their bits, as the values for bits and words read them.
+//! Cells of a row: numbers followed by their bits, as the values for bits and words read them.
 ghost use Rattle.std.specs.Prelude.{◌≡◌, ◌-◌, ◌/◌, ◌%◌, ◌<◌, ◌∷◌, ◌++◌};
 ghost use Rattle.air_gadgets.specs.Bits.{digits_of};
 
-/// A number, and behind it as many of its bits as there are cells left, the lowest first.
+/// A number, followed by its N - 1 lowest bits, the lowest first.
 pub fn with_bits<const N: usize>(number: u64) -> [u64; N]
     requires { 0 < N }
     ensures { result ≡ number ∷ digits_of 2 (N - 1) number }
@@ -16,8 +16,8 @@ pub fn with_bits<const N: usize>(number: u64) -> [u64; N]
     cells
 }
 
-/// The cells of a word, as the value `WordOfBits` reads them: its lower half with the 16 bits of it, and then its upper
-/// half with those.
+/// The cells of a word, as the value `WordOfBits` reads them: its lower half, followed by the 16 bits of that half,
+/// then the same for its upper half.
 pub fn word_with_bits(word: u32) -> [u64; 34]
     ensures { result ≡ ((word % 65536 ∷ digits_of 2 16 (word % 65536)) ++
         (word / 65536 ∷ digits_of 2 16 (word / 65536))) }

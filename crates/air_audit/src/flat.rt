@@ -1,4 +1,4 @@
-//! Constraints from outside: expressions of a pool in any builder, and the AIR that such expressions are.
+//! Constraints from outside: expressions of a pool in any builder, and the AIR made of such expressions.
 
 pub mod flat_air;
 mod labels;

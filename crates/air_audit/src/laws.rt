@@ -1,5 +1,4 @@
-//! What callers rely on of fields, pools, lists and words, as the contracts of functions: call one where its fact is
-//! wanted.
+//! Facts on fields, pools, lists and words, as contracts of functions: call a function where a proof needs its fact.
 
 pub use air_field::{extension_order, field_order};
 pub use air_gadgets::{packed_bits_are_numbers, words_are_exact};

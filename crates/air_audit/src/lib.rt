@@ -1,5 +1,7 @@
-//! The audit of an AIR, AIRs that are recorded or come from outside, and what their authors need of the crates below. The
-//! crate p3_air passes all of it on.
+//! The audit of an AIR, AIRs that are recorded or come from outside, and the items of the crates below that their
+//! authors use. The crate p3_air re-exports all of it.
+//!
+//! Calls fail only with `Memory` (`trace_of_rows` with `AllocError`) unless they say otherwise.
 #![tactic(auto)]
 
 pub mod audit;

@@ -20,7 +20,7 @@ pub struct Permutation<'a, EF> {
 }
 
 impl<'a, EF> Permutation<'a, EF> {
-    /// These three, as they are.
+    /// The permutation data of these three. Nothing is checked.
     pub fn new(trace: &'a RowMajorMatrix<EF>, challenges: &'a [EF], values: &'a [EF]) -> Self
         ensures trace { result.trace ≡ trace.entry }
         ensures challenges { result.challenges ≡ challenges.entry }
@@ -34,7 +34,7 @@ impl<'a, EF> Permutation<'a, EF> {
     }
 }
 
-/// A row that is there.
+/// The values of a row.
 fn row_of<'a, T: Copy>(trace: &'a RowMajorMatrix<T>, row: usize) -> &'a [T]
     requires { row < length trace.now.rows }
     ensures row { slice_get trace.now.rows row ≡ Some result.now }
@@ -46,7 +46,7 @@ fn row_of<'a, T: Copy>(trace: &'a RowMajorMatrix<T>, row: usize) -> &'a [T]
     }
 }
 
-/// A row, and the one after it around the end.
+/// A row and the next one; after the last row comes the first.
 fn row_pair<'a, T: Copy>(trace: &'a RowMajorMatrix<T>, row: usize) -> ViewPair<'a, T>
     requires { row < length trace.now.rows }
     ensures top { slice_get trace.now.rows row ≡ Some result.top.values.now }
@@ -61,13 +61,13 @@ fn row_pair<'a, T: Copy>(trace: &'a RowMajorMatrix<T>, row: usize) -> ViewPair<'
     )
 }
 
-/// The constraints of a plain AIR with permutation data that fail at a row of its traces, which is paired with the row
-/// after it around the end. Base constraints are evaluated in `F`, and those over the extension in `EF`.
+/// The constraints of a plain AIR with permutation data that fail at a row of its traces. The next row of the last row
+/// is the first one. Base constraints are evaluated in `F`, and those over the extension in `EF`.
 ///
 /// # Errors
 ///
-/// An entry that a constraint names and the row has not (`MissingEntry`, `MissingExtEntry`, `RowOffset`), and want of
-/// memory, where a failure is to be listed.
+/// A constraint names an entry that the row lacks (`MissingEntry`, `MissingExtEntry`, `RowOffset`); there are 2^64
+/// constraints or more (`CountOverflow`); `Memory`, only if a constraint isn't zero.
 pub fn check_row_with_permutation<
     'a,
     F: Field,

@@ -17,9 +17,12 @@ use air_field::{ExtensionField, Field};
 use air_recording::{Recorded, SymbolicAirBuilder};
 use air_symbolic::ExprId;
 
-/// Asserts the constraints on a builder, which is ready for more afterwards, also where they are refused. Refused ones
-/// leave a beginning of them asserted, which isn't the whole. On a
-/// [`SymbolicAirBuilder`] they are recorded, and no AIR has to be written.
+/// Asserts the constraints on a builder, which is ready for more afterwards, also after an error. After an error a
+/// strict prefix of them is asserted. On a [`SymbolicAirBuilder`] they are recorded, and no AIR has to be written.
+///
+/// # Errors
+///
+/// Those that the builder may give for these constraints.
 pub fn record_these<AB: AirBuilder, C: Constraint<AB>>(
     builder: &mut AB,
     constraints: &C,
@@ -33,8 +36,7 @@ pub fn record_these<AB: AirBuilder, C: Constraint<AB>>(
     assert_these(builder, constraints)
 }
 
-/// What was recorded on a builder that is ready, handed over with its pool, which is one over the base and over the
-/// extension.
+/// The recording of a builder that is ready, with the builder's pool.
 pub fn finish_recording<F: Field, EF: ExtensionField<F>>(
     builder: SymbolicAirBuilder<F, EF>,
 ) -> Recorded<F, EF>
@@ -53,14 +55,15 @@ fn first_past<A: Copy>(numbers: &[ExprId<A>], total: usize) -> Option<ExprId<A>>
     numbers.iter().copied().find(|id| id.number() >= total)
 }
 
-/// The AIR that declares the recorded base constraints, in order: that each recorded term is zero. Its main trace has
-/// `width` columns. It has no preprocessed table until [`FlatAir::with_preprocessed`] gives it one: a column that a
-/// recorded term names and that no table has is refused by its name (`MissingEntry`), or at an offset past 1 with
-/// `RowOffset`, when the AIR is audited, or a row of it checked. Recorded extension constraints are left out.
+/// The AIR that declares the recorded base constraints, in order: each recorded term is zero. Its main trace has
+/// `width` columns. Recorded extension constraints are left out.
 ///
-/// Of what was recorded of an AIR with its base constraints nothing but memory can be wanting, and the declared list
-/// then records these. Of numbers that were put together otherwise the first that isn't in the base pool is refused
-/// (`IndexPastTotal`). What the numbers reach is looked up here, once, which takes memory (`Memory`).
+/// It has no preprocessed trace until [`FlatAir::with_preprocessed`] adds one. Without it, an audit or a check of a row
+/// refuses a preprocessed column that a recorded term names (`MissingEntry`, or `RowOffset` at an offset past 1).
+///
+/// For the recording of an AIR the only error is `Memory`, and the declared list records that AIR's base constraints.
+/// If you assembled the numbers yourself, the first one outside the base pool is an error (`IndexPastTotal`). The nodes
+/// that the numbers reach are found here, once, which takes memory.
 pub fn recorded_air<F: Field, EF: ExtensionField<F>>(
     recorded: Recorded<F, EF>,
     width: usize,

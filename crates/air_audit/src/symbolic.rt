@@ -1,6 +1,6 @@
-//! Symbolic expressions: leaves and variables, the pools in which each tree stands once, the builder that records an
-//! AIR in them, the degree of what it recorded, and the AIR that such expressions are; and leaves, variables,
-//! expressions and layouts as JSON values.
+//! Symbolic expressions: leaves and variables, pools, which hold each tree once, the builder that records an AIR in a
+//! pool, the degree of a recording, and the AIR made of such expressions; and leaves, variables, expressions and
+//! layouts as JSON values.
 
 pub use crate::flat::flat_air::FlatAir;
 pub use crate::flat::resolving::{resolve, resolve_all};

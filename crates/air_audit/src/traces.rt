@@ -1,4 +1,4 @@
-//! Traces, written as rows of whole numbers.
+//! Traces made of rows of whole numbers.
 ghost use Rattle.std.specs.Prelude.{◌≡◌, ◌<◌, ◌++◌, length, map, IfOk, OnOk};
 ghost use Rattle.air_field.specs.Ring.{image};
 
@@ -18,8 +18,8 @@ fn push_row<F: Field, const N: usize>(values: &mut Vec<F>, row: &[u64; N]) -> Re
     Ok(())
 }
 
-/// The trace of these rows, from the first one down. A whole number stands for its class: one, added so many times. It
-/// refuses for want of memory alone.
+/// The trace of these rows, the first one on top. A number n becomes the field element n · 1. There is at least one
+/// column.
 pub fn trace_of_rows<F: Field, const N: usize>(
     alloc: Global,
     rows: &[[u64; N]],

@@ -1,7 +1,7 @@
-//! Exports traces, and says what p3-air answers to them.
+//! Exports traces, with the results of p3-air for them.
 //!
-//!     traces FOLDER     writes each trace: FOLDER/NAME, and FOLDER/NAME.stdout, what air_check is to print
-//!     traces --table    prints those that are good or turned by hand as a table of crates/test_program
+//!     traces FOLDER     writes each trace: FOLDER/NAME, and FOLDER/NAME.stdout, the text that air_check must print
+//!     traces --table    prints those that are good or changed by hand as a table of crates/test_program
 
 mod airs;
 #[cfg(any(
@@ -22,7 +22,7 @@ use p3_matrix::dense::RowMajorMatrix;
 use serde_json::Value;
 use std::{env, fs, io, path::Path, process::ExitCode};
 
-/// The modulus of a field, written out: nothing of the crate that is tried has a part in it.
+/// The modulus of a field, written out: it doesn't come from the crate that is tried.
 pub fn modulus<F: AuditedField>() -> u64 {
     match F::NAME {
         "BabyBear" => 2_013_265_921,
@@ -51,7 +51,7 @@ impl<F: AuditedField, A> Tried<F> for A where
 {
 }
 
-/// A trace of an AIR as an object, and what air_check is to say of it.
+/// A trace of an AIR as an object, and the text that air_check must print for it.
 pub struct Case {
     name: String,
     object: Value,
@@ -96,7 +96,7 @@ where
     }
 }
 
-/// The inferred degree: by p3-air's call where the transition selector is linear, else the greatest of its expressions.
+/// The inferred degree: by p3-air's call if the transition selector is linear, else the greatest of its expressions'.
 fn degree_of<F, A>(air: &A, height: usize, weight: usize) -> usize
 where
     F: AuditedField,

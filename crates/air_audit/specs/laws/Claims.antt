@@ -1,4 +1,4 @@
--- What vanishing constraints say, for the proof of a claim.
+-- Laws of vanishing constraints, for the proof of a claim.
 pub use Rattle.air_gadgets.specs.laws.Vanishing.{both_vanish, one_vanishes}
 pub use Rattle.air_report.specs.laws.VanishingChecks.{kept_vanish, plain_vanish, report_vanish}
 pub use Rattle.air_report.specs.laws.VanishingReports.{all_vanish, none_reported}

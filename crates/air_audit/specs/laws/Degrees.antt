@@ -1,4 +1,4 @@
--- The clauses on the degree say that it is the one inferred for the trace: they hold what `IsDegreeFor` does.
+-- The degree of an audit is the one that air_recording infers for the trace: its clauses give `IsDegreeFor`.
 use Rattle.std.proofs.Common.{◌≡◌, ℕ, zero, suc, ◌+◌, ◌-◌, ◌*◌, ◌<◌, ◌≤◌, ◌^◌, max, List, [], ◌∷◌, sym, subst, arith}
 use Rattle.std.proofs.Math.Nat.{max-eq_left, max-le, le-max_left, le-max_right, mul-le-mul_right}
 use Rattle.std.proofs.lemmas.Grind.{div_ceil_times}
@@ -12,7 +12,7 @@ use Rattle.air_audit.specs.Theorem.{Instance, row_count, domain, degree_in, Boun
 quotient_of : (k n : ℕ) → quotient_degree (suc k) n ≡ div_ceil k (max (n - 1) 1)
 quotient_of k n = Prim.grind arith
 
--- the bound of a quotient's degree is no less than the degree of what is divided
+-- for the quotient degree d the bound d (n - 1) + 1 is at least the degree of the dividend
 quotient_reaches : (p n : ℕ) → 2 ≤ n → p ≤ quotient_degree p n * (n - 1) + 1
 quotient_reaches zero n h = omega arith
 quotient_reaches (suc k) n h =
@@ -27,7 +27,7 @@ inferred_bounds n [] ts h =
     omega (arith, quotient_reaches p n h, mul-le-mul_right (n - 1) (le-max_left q (greatest_degree cached_weight ts)))
 inferred_bounds n (x ∷ periods) ts h = quotient_reaches (greatest_degree (trace_weight n (x ∷ periods)) ts) n h
 
--- the greatest degree bounds each, and is the least that does
+-- the greatest degree bounds each degree, and is the least bound
 each_within : {F : Type 0} (w : Leaf → ℕ) (n : ℕ) (ts : List (Term F)) → greatest_degree w ts ≤ n → DegreesWithin w n ts
 each_within w n [] h k d b = absurd (omega arith)
 each_within w n (t ∷ ts) h zero d b = omega (arith, le-max_left (degree_by w t) (greatest_degree w ts))
@@ -38,7 +38,7 @@ greatest_within_all w n [] h = omega arith
 greatest_within_all w n (t ∷ ts) h = max-le (h 0 t (omega arith)) (greatest_within_all w n ts (λ k d b. h (suc k) d (omega arith)))
 
 module _ {F : Type 0} (x : Instance F) (ts : List (Term F)) (d : ℕ) where
-  -- what `audit_air` says of the degree, in its clauses `degree` and `least`
+  -- the degree in the clauses `degree` and `least` of `audit_air`
   pub is_degree_for : (w : ℕ) → d ≡ degree_in w x ts → greatest_degree (domain w x).weight ts < 2 ^ 64
       → (3 ≤ row_count x → IsLeast (BoundsDegrees (domain w x) ts) d)
       → IsDegreeFor w (row_count x) (periods_of x.air.periodic) ts d

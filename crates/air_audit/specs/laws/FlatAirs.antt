@@ -1,4 +1,4 @@
--- That roots are in a pool has at most one proof.
+-- `RootsIn` has at most one proof.
 use Rattle.std.specs.Prelude.{ℕ, List}
 use Rattle.std.proofs.Props.{props}
 use Rattle.air_symbolic.specs.ExtLeaves.{BaseNodes}

@@ -1,4 +1,4 @@
--- That a plan is one of some roots has at most one proof.
+-- `IsPlan` has at most one proof.
 use Rattle.std.specs.List.{AllZip}
 use Rattle.std.specs.Prelude.{◌≡◌, ℕ, List, [], ◌∷◌}
 use Rattle.std.proofs.Props.{props}

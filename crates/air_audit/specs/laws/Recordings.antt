@@ -1,5 +1,5 @@
--- What is recorded as one list, in the order of the declared constraints: its places, its values on each row, and its
--- report.
+-- The recorded constraints as one list, in the order of the declared constraints: its places, its values on each row,
+-- and its report.
 use Rattle.std.proofs.Common.{◌≡◌, ℕ, zero, suc, ◌+◌, List, [], ◌∷◌, ◌++◌, map, Bool, true, false, not, Option, Some, slice_get, refl, sym, ap, ap₂, ◌∙◌, arith, cond}
 use Rattle.std.specs.List.{AllZip, filter, enumerate_from}
 use Rattle.air_field.specs.Ring.{CommRing, self_algebra}
@@ -15,7 +15,7 @@ use Rattle.air_report.specs.laws.Report.{report_of-more}
 use Rattle.air_audit.specs.Theorem.{Instance, read_at, value_on, RecordsEach, recorded_base, recorded_ext, base_constraints, ext_constraints}
 use Rattle.air_audit.specs.declared.audit.Audit.{Audit}
 
--- the recorded terms of both kinds at the places of the declared list
+-- the recorded terms of both kinds, at the places of the declared list
 abbrev pub at_places : {F : Type 0} → List (Assertion F) → List (Term F) → List (Term F) → List (Assertion F)
 at_places [] us vs = []
 at_places (Base t ∷ ts) [] vs = []
@@ -24,7 +24,7 @@ at_places (Extension t ∷ ts) us [] = []
 at_places (Extension t ∷ ts) us (v ∷ vs) = Extension v ∷ at_places ts us vs
 
 module _ {F : Type 0} (r : CommRing F) where
-  -- a constraint of the same kind, whose term records that of the declared one
+  -- a constraint of the declared one's kind, whose term records the declared term
   abbrev pub RecordsConstraint : Assertion F → Assertion F → Type 0
   RecordsConstraint (Base u) (Base t) = RecordsTerm (self_algebra r) u t
   RecordsConstraint (Base u) (Extension t) = ⊥
@@ -41,7 +41,7 @@ module _ {F : Type 0} (r : CommRing F) where
   placed_records n (Extension t ∷ ts) us [] l m = absurd m
   placed_records n (Extension t ∷ ts) us (v ∷ vs) l m = (m.0, placed_records (n + 1) ts us vs l m.1)
 
-  -- at the places of the base kind stand the base terms, in order
+  -- the places of base constraints have the base terms, in order
   at_base_places : (at : ℕ → Option (Assertion F)) (n : ℕ) (ts : List (Assertion F)) (us vs : List (Term F)) → AllZip Records us (base_constraints n ts) → AllZip Records vs (ext_constraints n ts)
       → ((k : ℕ) → at (n + k) ≡ slice_get (at_places ts us vs) k) → map at (map (λ c. c.0) (base_constraints n ts)) ≡ map (λ u. Some (Base u)) us
   at_base_places at n [] [] vs l m h = refl
@@ -52,7 +52,7 @@ module _ {F : Type 0} (r : CommRing F) where
   at_base_places at n (Extension t ∷ ts) us [] l m h = absurd m
   at_base_places at n (Extension t ∷ ts) us (v ∷ vs) l m h = at_base_places at (n + 1) ts us vs l m.1 (λ k. ap at (omega arith) ∙ h (suc k))
 
-  -- and at those of the extension kind the extension terms
+  -- the places of extension constraints have the extension terms, in order
   at_ext_places : (at : ℕ → Option (Assertion F)) (n : ℕ) (ts : List (Assertion F)) (us vs : List (Term F)) → AllZip Records us (base_constraints n ts) → AllZip Records vs (ext_constraints n ts)
       → ((k : ℕ) → at (n + k) ≡ slice_get (at_places ts us vs) k) → map at (map (λ c. c.0) (ext_constraints n ts)) ≡ map (λ v. Some (Extension v)) vs
   at_ext_places at n [] us [] l m h = refl
@@ -63,7 +63,7 @@ module _ {F : Type 0} (r : CommRing F) where
   at_ext_places at n (Extension t ∷ ts) us (v ∷ vs) l m h =
       ap₂ (λ x xs. x ∷ xs) (ap at (omega arith) ∙ h 0) (at_ext_places at (n + 1) ts us vs l m.1 (λ k. ap at (omega arith) ∙ h (suc k)))
 
-  -- what records has the value of what is declared, so the reports agree
+  -- a recorded constraint has the value of the declared one, so the reports agree
   same_value : (s : Leaf → F) (u t : Assertion F) → RecordsConstraint u t → assertion_value r s u ≡ assertion_value r s t
   same_value s (Base u) (Base t) h = h.same_value s
   same_value s (Base u) (Extension t) h = absurd h
@@ -112,7 +112,7 @@ module _ {F : Type 0} (r : CommRing F) (eq : F → F → Bool) (basis : Basis F 
   pub list_records : AllZip (RecordsConstraint r) recorded_list x.air.constraints
   list_records = placed_records r 0 x.air.constraints (recorded_base audit.recorded) (recorded_ext basis audit.recorded) h.terms.each_base h.terms.each_ext
 
-  -- the terms of the recorded numbers stand at the indices
+  -- the layout's places have the terms of the recorded numbers
   pub list_at_base : map (λ p. slice_get recorded_list p) audit.layout.base_indices.items ≡ map (λ u. Some (Base u)) (recorded_base audit.recorded)
   list_at_base = ap (map (λ p. slice_get recorded_list p)) h.base_places
       ∙ at_base_places r (λ p. slice_get recorded_list p) 0 x.air.constraints (recorded_base audit.recorded) (recorded_ext basis audit.recorded) h.terms.each_base h.terms.each_ext (λ k. ap (slice_get recorded_list) (omega arith))
@@ -125,6 +125,6 @@ module _ {F : Type 0} (r : CommRing F) (eq : F → F → Bool) (basis : Basis F 
   pub list_values : (i : ℕ) → map (value_on r x i) recorded_list ≡ map (value_on r x i) x.air.constraints
   list_values i = same_values r (read_at r x i) recorded_list x.air.constraints list_records
 
-  -- and so on any number of rows the report of them is that of the declared constraints
+  -- so on any number of rows their report is that of the declared constraints
   pub list_report : (n : ℕ) → report_of r eq (instance_trace x) recorded_list n ≡ report_of r eq (instance_trace x) x.air.constraints n
   list_report n = same_report r eq (instance_trace x) recorded_list x.air.constraints list_records n

@@ -1,4 +1,4 @@
--- The words of the audit theorem are those of the crates below.
+-- The words of the audit theorem say the same as those of the crates below.
 use Rattle.std.proofs.Common.{◌≡◌, ◌⊎◌, ℕ, zero, suc, ◌+◌, ◌++◌, ◌%◌, ◌<◌, ◌≤◌, List, [], ◌∷◌, map, length, take, not, Bool, All, Option, Some, None, IfSome, unwrap_or, slice_get, slice_index_or, refl, sym, ap, ◌∙◌, subst, arith, inl, inr}
 use Rattle.std.specs.Prelude.{String, string_bytes, Vec}
 use Rattle.std.specs.Global.{Global}
@@ -43,7 +43,7 @@ use Rattle.air_report.specs.Shapes.{FitsHeight, IsShapeFault, PeriodsFitBelow, t
 use Rattle.air_report.specs.declared.debug.failure.ConstraintFailure.{ConstraintFailure}
 use Rattle.air_audit.specs.Theorem.{Instance, row_count, entry_at, read_at, shape_with, IsPeriodOf, FixedColumnsFit, AreProperBelow, ext_leaf_term, recorded_base, recorded_ext, terms_in, base_constraints, ext_constraints, nonzero_places, violations, RecordingRefuses, IsRecordable, FixedColumnsRefuse, EvaluationRefuses, IsFaultOfCell, CellsRefuse}
 
--- ---- what is read on a row
+-- ---- reading a row
 
 row_is : {F : Type 0} (o : Option (List F)) → unwrap_or o [] ≡ row_or_none o
 row_is None = refl
@@ -122,7 +122,7 @@ shape_is x =
     })
     (sym (length-map x.air.periodic (λ column. column.items)))
 
--- what the recording refuses
+-- the recording's errors
 recording_refused_as : {F : Type 0} (air : Declaration F) (e : AirError) → Refused (IsMissing (shape_with air air.width air.num_public_values)) (OverflowsDegree cached_weight) (λ _. ⊥) e air.constraints → RecordingRefuses air e
 recording_refused_as air Memory h = tt
 recording_refused_as air DegreeOverflow h = (h.0, h.1.0, h.1.1)
@@ -149,7 +149,7 @@ as_recording_refused air _ h = h
 pub recording_refuses_back : {F : Type 0} (air : Declaration F) (e : AirError) → RecordingRefuses air e → Refused (IsMissing (layout_shape (air_layout air))) (OverflowsDegree cached_weight) (λ _. ⊥) e air.constraints
 recording_refuses_back air e h = subst (λ s. Refused (IsMissing s) (OverflowsDegree cached_weight) (λ _. ⊥) e air.constraints) (own_shape_is air) (as_recording_refused air e h)
 
--- what the rows refuse but want of memory
+-- the rows' errors, without `Memory`
 module _ {F : Type 0} (x : Instance F) where
   rows_refused_as : (e : AirError) → 0 < row_count x → Refused (IsMissing (shape_with x.air x.main.width (length x.public))) (λ _. ⊥) (IsFull 0) e x.air.constraints → (e ≡ Memory) ⊎ EvaluationRefuses x e
   rows_refused_as Memory some h = inl refl
@@ -349,7 +349,7 @@ module _ {F : Type 0} (x : Instance F) where
   cells_refuse_back EmptyTrace h = (proper_back (length x.air.cells) (omega arith) h.0, h.1, h.2)
   cells_refuse_back _ h = h
 
--- ---- what is recorded
+-- ---- recordings
 
 module _ {F E : Type 0} (basis : Basis F E) (u : BaseNodes F) where
   pub ext_leaf_term_is : (a : ExtLeaf F E) → ext_leaf_term basis u.nodes a ≡ ext_term basis u a
@@ -387,7 +387,7 @@ module _ {F : Type 0} where
   ext_places_are n (Base t ∷ ts) = ext_places_are (n + 1) ts
   ext_places_are n (Extension t ∷ ts) = ap (λ ks. n ∷ ks) (ext_places_are (n + 1) ts)
 
--- what holds of each term of a list of constraints holds of each constraint
+-- a property of each term of a list of constraints holds for each constraint
 module _ {F X : Type 0} (R : X → Term F → Type 0) where
   each_constraint : (xs : List X) (cs : List (ℕ × Term F)) → AllZip R xs (map (λ c. c.1) cs) → AllZip (λ x c. R x c.1) xs cs
   each_constraint [] [] h = tt
@@ -413,7 +413,7 @@ module _ {F X : Type 0} (R : X → Term F → Type 0) where
   pub each_ext_back : (xs : List X) (ts : List (Assertion F)) → AllZip (λ x c. R x c.1) xs (ext_constraints 0 ts) → AllZip R xs (ext_terms ts)
   each_ext_back xs ts h = subst (AllZip R xs) (ext_terms_are 0 ts) (each_term xs (ext_constraints 0 ts) h)
 
--- where a recording answers, the declared constraints are recordable
+-- if a recording succeeds, the declared constraints are recordable
 pub recordable : {F : Type 0} (r : CommRing F) (air : Declaration F) → RecordingAnswers r (self_algebra r) (air_layout air) air → IsRecordable r air
 recordable r air h = record {
   there = subst (λ s. NoneMissing (IsMissing s) air.constraints) (sym (own_shape_is air)) h.suits.there;
