@@ -1,4 +1,4 @@
-//! Audits look-ups of squares, right ones and wrong ones.
+//! Audits a correct trace of square lookups, and a wrong one.
 #![tactic(auto)]
 
 mod lookup;
