@@ -1,5 +1,5 @@
-//! Look-ups in a table: a selected row holds a number and its square, as the preprocessed trace lists them, and the
-//! selected rows are counted.
+//! Lookups in a table. A selected row holds a number and its square, as the preprocessed trace lists them; the selected
+//! rows are counted.
 #![tactic(auto)]
 
 use p3_air::{
@@ -9,7 +9,7 @@ use p3_air::{
 use std::alloc::Global;
 use std::io;
 
-/// The table of the numbers below 8 and their squares.
+/// The numbers below 8 and their squares.
 fn squares<F: Field>(alloc: Global) -> Result<RowMajorMatrix<F>, AirError> {
     let mut rows = TraceRows::new(alloc, 2);
     for n in 0..8 {
