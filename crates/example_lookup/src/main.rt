@@ -53,6 +53,7 @@ fn lookup<F: Field>(alloc: Global) -> Result<FlatAir<F>, AirError> {
 
 fn main(rt: HostRuntime) -> io::Result<()> {
     let alloc = rt.alloc();
+    // Columns: number, square, selector, count.
     let right = [
         [0, 0, 1, 1],
         [5, 0, 0, 1],
@@ -71,6 +72,7 @@ fn main(rt: HostRuntime) -> io::Result<()> {
         &public_values,
     )?;
     let mut wrong = right;
+    // Row 1 is selected, but holds no row of the table; 8 is not 3 squared; the selector of row 4 is no bit.
     wrong[1][2] = 1;
     wrong[3][1] = 8;
     wrong[4][2] = 2;

@@ -47,6 +47,8 @@ fn memory<F: Field>(alloc: Global) -> Result<FlatAir<F>, AirError> {
 
 fn main(rt: HostRuntime) -> io::Result<()> {
     let alloc = rt.alloc();
+    // Columns: address, clock, value, is_write, same (as the next row's address), parity, the 8 bits of the gap.
+    // The write at clock 1 stores 5, so the read at clock 3 must return 5.
     for read in [5, 6] {
         let rows = [
             [7, 1, 5, 1, 1, 0, 1, 0, 0, 0, 0, 0, 0, 0],
