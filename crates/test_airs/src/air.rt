@@ -20,7 +20,7 @@ use example_fibonacci::Fibonacci;
 #[derive(Drop)]
 pub struct TableAir<F: Field> {
     pub constraints: Constraints,
-    /// The expressions of the lines and the other parts of the AIR. The parts count for every list of constraints.
+    /// The expressions of the lines and the other parts of the AIR. The parts apply to every list of constraints.
     pub flat: FlatAir<F>,
     /// The preprocessed trace.
     pub table: Option<RowMajorMatrix<F>>,

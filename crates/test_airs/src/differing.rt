@@ -17,7 +17,7 @@ struct Row<E> {
     z: E,
 }
 
-/// The value of a column at the current row, or an error that names the column.
+/// The value of a column at the current row. If the column is missing, the error names it.
 fn read_cell<AB: AirBuilder>(builder: &mut AB, column: usize) -> Result<AB::Expr, AirError>
     requires { AB.ready builder.old }
     ensures keeps { AB.grew builder.old builder.new [] }
