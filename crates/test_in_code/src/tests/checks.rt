@@ -103,7 +103,7 @@ fn arrays_are_batches(rt: HostRuntime) -> Result<(), Fail> {
     Ok(())
 }
 
-// Asserts under names what holds of `one`.
+// Asserts under names that an element is one, equals itself, and is a bit.
 fn ones_asking<AB: NamedAirBuilder>(
     builder: &mut AB,
     one: AB::Expr,
