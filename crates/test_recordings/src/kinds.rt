@@ -13,7 +13,7 @@ use test_lines::Fault;
 use test_lines::words::Number;
 
 // Adds the answer of an audit, if its input is given; otherwise that of a call that records over the base field.
-// Returns whether this is such a call.
+// Returns whether the call is one of these.
 fn over_base<'a, F: Number + 'static, A: BaseAir<F> + Air<Recorder<F, F>> + Air<RowBuilder<'a, F>>>(
     alloc: Global,
     air: &'a A,
