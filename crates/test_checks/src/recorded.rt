@@ -67,7 +67,7 @@ fn without_pool<F: Field>(alloc: Global, recorded: Recorded<F, F>) -> Recorded<F
     Recorded { pool, base, ext }
 }
 
-// Adds the error for a recording's ids, if it names the first of them.
+// Adds the error if it names the first id of the recording; returns any other error.
 fn show_refusal(error: AirError, first: Option<usize>, text: &mut String) -> Result<(), Fault> {
     match error {
         AirError::IndexPastTotal { index, total } if Some(index) == first => {

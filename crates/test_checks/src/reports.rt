@@ -54,7 +54,7 @@ fn show(report: &ConstraintReport, text: &mut String) -> Result<(), Fault> {
 pub enum Asked {
     /// The report, under a cap if there is one, or the debug text of a copy of it.
     Report { cap: Option<usize>, copied: bool },
-    /// The first failure. An error of the check fails the line, or is written as its own text if `in_words`.
+    /// The first failure. An error of the check is returned as a fault, or written as its own text if `in_words`.
     First { in_words: bool },
 }
 
