@@ -59,7 +59,7 @@ spells-all word text read e h = record {
   text_is = h.text_is;
 }
 
--- an error means that the option is None
+-- if `ok_or` gives an error, the option is None
 pub no-letter : {E : Type 0} (o : Option ℕ) (e y : E) → ◌≡◌ {A = Result ℕ E} (Err y) (ok_or o e) → (o ≡ None) × (y ≡ e)
 no-letter None e y h = (refl, cc)
 no-letter (Some x) e y h = absurd (clash x e y h)
@@ -67,7 +67,7 @@ no-letter (Some x) e y h = absurd (clash x e y h)
     clash : {E : Type 0} (x : ℕ) (e y : E) → ◌≡◌ {A = Result ℕ E} (Err y) (ok_or (Some x) e) → ⊥
     clash x e y h = cc
 
--- a value means that the option holds it
+-- if `ok_or` gives a value, the option holds it
 pub letter-of : {E : Type 0} (o : Option ℕ) (e : E) (x : ℕ) → ◌≡◌ {A = Result ℕ E} (Ok x) (ok_or o e) → o ≡ Some x
 letter-of None e x h = cc
 letter-of (Some y) e x h = cc
