@@ -9,7 +9,7 @@ use example_fibonacci::Fibonacci;
 use std::alloc::Global;
 use test_lines::{Fault, Why};
 
-/// An AIR of three columns without constraints, whose only hint is that only column 1 is read at the next row.
+/// An AIR of three columns without constraints. Its only hint: of the next row only column 1 is read.
 struct OneHint;
 
 impl<F: Field> BaseAir<F> for OneHint {
