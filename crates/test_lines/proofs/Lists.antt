@@ -10,7 +10,7 @@ AllZip-end R [] (b ∷ ys) x y h r = absurd h
 AllZip-end R (a ∷ xs) [] x y h r = absurd h
 AllZip-end R (a ∷ xs) (b ∷ ys) x y h r = (h.0, AllZip-end R xs ys x y h.1 r)
 
--- extends `AllZip` by one: x belongs to element k
+-- extends `AllZip` by one: R holds of x and element k
 pub AllZip-more : {A B : Type 0} (R : A → B → Type 0) (xs : List A) (ys : List B) (k : ℕ) (x : A) (d : B)
     → k < length ys → AllZip R xs (take k ys) → R x (get_or ys k d) → AllZip R (xs ++ x ∷ []) (take (k + 1) ys)
 AllZip-more R xs ys k x d lt h r =
