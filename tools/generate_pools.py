@@ -291,8 +291,8 @@ def generated_pool(r):
 def generated():
     r = random.Random(SEED)
     lines = ["# base pools", "",
-             "# Calls, and lists of nodes, good ones and damaged ones, by chance: which node a call makes, that an equal one is",
-             "# made once, all degrees, and what is read and written. By tools/generate_pools.py."]
+             "# Random calls and random lists of nodes, valid and damaged: the node that a call makes, one number for equal nodes, all",
+             "# degrees, and the lists read and written. By tools/generate_pools.py."]
     for _ in range(ROUNDS):
         lines += generated_pool(r)
     return lines
@@ -332,12 +332,12 @@ def squares(leaf, count, last):
 
 def shared_nodes():
     column = squares("Main 0 0", 63, 1 << 63)
-    return (["# base pools", "", "# A node that is made again has its number: 100 columns and 99 sums, twice. By tools/generate_pools.py."]
+    return (["# base pools", "", "# Making a node again gives its number: 100 columns and 99 sums, twice. By tools/generate_pools.py."]
             + columns_and_sums()
-            + ["", "# The numbers are those of a list that is scanned for an equal node; three rounds."] + numbers()
+            + ["", "# The same numbers as in a list that is scanned for an equal node; three rounds."] + numbers()
             + ["", "# A shared node is written once: a column squared 63 times is 64 nodes.", "new", "x = variable Main 0 0",
                "s = insert_mul x x", "repeat 62 s = insert_mul s s", "len => 64", f"to_flat_value s => {column}",
-               f"from_flat_value {column} => s", "len => 64", "", "# One squaring more passes the greatest degree.", "new",
+               f"from_flat_value {column} => s", "len => 64", "", "# One more squaring passes the greatest degree.", "new",
                f"from_flat_value {squares('IsFirstRow', 64, 0)} => DegreeOverflow"])
 
 

@@ -2,7 +2,7 @@
 use Rattle.std.specs.Prelude.{ℕ, List, ◌++◌}
 use Rattle.p3_air.specs.Author.{CommRing, Assertion, add2_asserts, word_at, word_bits}
 
--- the words at columns 0, 34 and 68 have their bits, and the first is the sum of the others
+-- the words at columns 0, 34 and 68 have their bits, and the first word is the sum of the other two
 abbrev pub adder : {F : Type 0} → CommRing F → List (Assertion F)
 adder R =
     let a : ℕ = 0 in

@@ -1,8 +1,8 @@
--- What a checked trace says.
+-- What a passing trace satisfies.
 use Rattle.std.specs.Prelude.{ℕ, ◌<◌, [], length}
 use Rattle.p3_air.specs.Author.{CommRing, word_at}
 use Rattle.p3_air.specs.Claims.{row_assignment, Grid, plain_trace, AddsUp}
 
--- at each row the first word is the sum of the others modulo 2^32
+-- at each row, the first word is the sum of the other two modulo 2^32
 abbrev pub RowsAddUp : {F : Type 0} → CommRing F → Grid F → Type 0
 RowsAddUp R trace = (row : ℕ) → row < length trace.rows → AddsUp R (row_assignment R (plain_trace trace []) row) (word_at 0) (word_at 34) (word_at 68)

@@ -1,9 +1,10 @@
-//! An adder: three words of 34 columns each, their limbs with the bits behind them, of which a is b + c modulo 2^32.
+//! An adder: three words a, b and c of 34 columns each (two limbs, each followed by its 16 bits); a is b + c modulo
+//! 2^32.
 ghost use Rattle.example_adder.specs.Adder.{adder};
 
 use p3_air::author::*;
 
-/// a, b and c have their bits, and a is b + c.
+/// The words a, b and c have their bits, and a is b + c.
 pub struct Adder {}
 
 impl<F: Field> PlainAir<F> for Adder {

@@ -1,4 +1,4 @@
-//! What a checked trace says.
+//! What a passing trace satisfies.
 ghost use Rattle.std.specs.Prelude.{◌^◌, ◌<◌, OnOk};
 ghost use Rattle.example_adder.specs.Checks.{RowsAddUp};
 
@@ -8,7 +8,7 @@ use p3_air::laws::words_are_exact;
 use p3_air::{CheckError, PrimeField, RowMajorMatrix, check_constraints};
 use std::alloc::Global;
 
-/// Checks a trace. Over a field of characteristic above 2^17 it is Ok only if at each row a is b + c modulo 2^32.
+/// Checks a trace. Over a field of characteristic above 2^17, `Ok` implies that a is b + c modulo 2^32 at each row.
 pub fn check_sums<F: PrimeField + 'static>(
     alloc: Global,
     trace: &RowMajorMatrix<F>,

@@ -1,4 +1,4 @@
-//! Checks of right and of wrong sums of words.
+//! Checks three correct sums of words, then three of which one is wrong.
 #![tactic(auto)]
 
 mod adder;

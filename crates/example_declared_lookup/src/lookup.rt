@@ -1,4 +1,4 @@
-//! Look-ups in a table of numbers and their squares.
+//! Lookups in a table of numbers and their squares.
 ghost use Rattle.std.specs.Prelude.{◌≡◌, map, Some, IfOk};
 ghost use Rattle.p3_air.specs.Ring.{image};
 ghost use Rattle.example_declared_lookup.specs.Lookup.{squares, of_table, counted, lookup, count_at_end};
@@ -34,16 +34,16 @@ const SQUARES: [[u64; 2]; 8] = [
     [7, 49],
 ];
 
-/// Selected rows hold the table's row, and are counted; the last row's count is public value 0.
+/// Each selected row equals the preprocessed row. The selected rows are counted; the last count is public value 0.
 #[derive(Drop)]
 pub struct Lookup<F> {
     pub table: RowMajorMatrix<F>,
-    /// One periodic column: which rows may be selected.
+    /// One periodic column: one where a row may be selected.
     pub turns: Vec<Vec<F>>,
 }
 
 impl<F: Field> Lookup<F> {
-    /// The look-ups in the table of squares, of which `turns` says in which rows of a period they may be.
+    /// Lookups in the table of squares; the periodic columns are `turns`.
     pub fn new(alloc: Global, turns: Vec<Vec<F>>) -> Result<Self, AirError>
         ensures table { IfOk result (λ a. a.table
             ≡ record { width = 2; rows = map (map (image F.ring)) squares }) }
@@ -54,7 +54,7 @@ impl<F: Field> Lookup<F> {
     }
 }
 
-/// A number and its square are the table's.
+/// The number and its square equal the preprocessed row.
 #[derive(Clone, Copy, Drop)]
 struct OfTable {}
 
@@ -82,7 +82,7 @@ impl<AB: NamedAirBuilder> Constraint<AB> for OfTable {
     }
 }
 
-/// The count begins with the first row's selector, and rises by the next row's.
+/// The count starts at the first row's selector, and increases by the next row's selector.
 #[derive(Clone, Copy, Drop)]
 struct Counted {}
 

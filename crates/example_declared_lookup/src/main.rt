@@ -1,4 +1,4 @@
-//! Audits look-ups of squares, right ones and wrong ones.
+//! Audits a correct trace of square lookups, and a wrong one.
 #![tactic(auto)]
 
 mod lookup;
@@ -30,6 +30,7 @@ fn show(rt: &HostRuntime, rows: &[[u64; 4]; 8]) -> io::Result<()> {
 }
 
 fn main(rt: HostRuntime) -> io::Result<()> {
+    // Columns: number, square, selector, count.
     let right = [
         [0, 0, 1, 1],
         [1, 1, 1, 2],
@@ -42,6 +43,7 @@ fn main(rt: HostRuntime) -> io::Result<()> {
     ];
     show(&rt, &right)?;
     let mut wrong = right;
+    // Row 2 is selected, which the periodic column forbids; 24 is not 5 squared.
     wrong[2][2] = 1;
     wrong[5][1] = 24;
     show(&rt, &wrong)

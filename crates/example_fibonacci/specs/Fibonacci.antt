@@ -2,7 +2,7 @@
 use Rattle.std.specs.Prelude.{List, ◌++◌}
 use Rattle.air_audit.specs.Author.{Assertion, Declaration, plain_declaration, current, next, public, first_row, last_row, transition, ◌⊕◌, ◌≐◌, when}
 
--- a and b begin with public values 0 and 1; the next a is b, and the next b is a + b; the last b is public value 2
+-- the first row is public values 0 and 1; the next a is b, and the next b is a + b; the last b is public value 2
 abbrev pub fibonacci : {F : Type 0} → List (Assertion F)
 fibonacci =
     let a = current 0 in
@@ -11,6 +11,6 @@ fibonacci =
     when transition (next 0 ≐ b ++ next 1 ≐ a ⊕ b) ++
     when last_row (b ≐ public 2)
 
--- on two columns and three public values, with nothing beside
+-- two columns, three public values, and nothing besides
 abbrev pub fibonacci_declaration : {F : Type 0} → Declaration F
 fibonacci_declaration = plain_declaration fibonacci 2 3

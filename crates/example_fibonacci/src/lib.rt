@@ -1,5 +1,4 @@
-//! Fibonacci: columns a and b, in which each row leads to the next. The program audits it, and tests and the benchmark
-//! use it.
+//! The Fibonacci AIR: two columns a and b. The program audits a trace; tests and the benchmark use the AIR.
 #![tactic(auto)]
 
 ghost use Rattle.std.specs.Prelude.{◌≡◌, true, false, if◌then◌else◌, []};
@@ -10,32 +9,32 @@ use air_audit::author::{
 };
 use air_audit::{Air, AirError, BaseAir, BoundaryPublic, NamedAirBuilder, RowMajorMatrix};
 
-/// The Fibonacci AIR. The first row holds public values 0 and 1, each further row the second number of the one before
-/// it and the sum of both, and the last row's second number is public value 2.
+/// The Fibonacci AIR. The first row holds public values 0 and 1. Each next row holds b and a + b. The last row's b is
+/// public value 2.
 ///
-/// Its assertions have labels where it is made by `with_labels`; they change no value and no place.
+/// `with_labels` adds labels to the assertions; they change no value and no constraint index.
 #[derive(Clone, Copy, Debug)]
 pub struct Fibonacci {
-    /// Whether its assertions have labels.
+    /// Whether the assertions have labels.
     pub is_named: bool,
 }
 
 impl Fibonacci {
-    /// The AIR whose assertions have no labels.
+    /// The AIR without labels.
     pub fn new() -> Self
         ensures { result.is_named ≡ false }
     {
         Fibonacci { is_named: false }
     }
 
-    /// The AIR whose assertions have labels.
+    /// The AIR with labels.
     pub fn with_labels() -> Self
         ensures { result.is_named ≡ true }
     {
         Fibonacci { is_named: true }
     }
 
-    /// The label of an assertion; an empty one is none.
+    /// The label of an assertion; the empty label means none.
     fn label(self, text: &'static str) -> &'static str
         ensures { result.now ≡ (if self.is_named then text.now else []) }
     {

@@ -1,5 +1,5 @@
-//! Look-ups in a table: a selected row holds a number and its square, as the preprocessed trace lists them, and the
-//! selected rows are counted.
+//! Lookups in a table. A selected row holds a number and its square, as the preprocessed trace lists them; the selected
+//! rows are counted.
 #![tactic(auto)]
 
 use p3_air::{
@@ -9,7 +9,7 @@ use p3_air::{
 use std::alloc::Global;
 use std::io;
 
-/// The table of the numbers below 8 and their squares.
+/// The numbers below 8 and their squares.
 fn squares<F: Field>(alloc: Global) -> Result<RowMajorMatrix<F>, AirError> {
     let mut rows = TraceRows::new(alloc, 2);
     for n in 0..8 {
@@ -53,6 +53,7 @@ fn lookup<F: Field>(alloc: Global) -> Result<FlatAir<F>, AirError> {
 
 fn main(rt: HostRuntime) -> io::Result<()> {
     let alloc = rt.alloc();
+    // Columns: number, square, selector, count.
     let right = [
         [0, 0, 1, 1],
         [5, 0, 0, 1],
@@ -71,6 +72,7 @@ fn main(rt: HostRuntime) -> io::Result<()> {
         &public_values,
     )?;
     let mut wrong = right;
+    // Row 1 is selected, but holds no row of the table; 8 is not 3 squared; the selector of row 4 is no bit.
     wrong[1][2] = 1;
     wrong[3][1] = 8;
     wrong[4][2] = 2;

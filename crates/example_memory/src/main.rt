@@ -1,4 +1,4 @@
-//! A memory log, sorted by address and then by clock: a read answers what was written last.
+//! A memory log, sorted by address and then by clock: each read returns the last value written.
 #![tactic(auto)]
 
 use p3_air::boundary::BoundaryEnd;
@@ -6,8 +6,8 @@ use p3_air::{AirError, BabyBear, Constraints, Field, FlatAir, print_audit, trace
 use std::alloc::Global;
 use std::io;
 
-/// A row is an access: a write or a read of a value at an address, at a time. Within an address the clock rises by 1 to
-/// 256, and so does the address from one to the next.
+/// A row is an access: a write or a read of a value at an address, at a clock time. While the address stays, the clock
+/// increases by 1 to 256; otherwise the address does.
 fn memory<F: Field>(alloc: Global) -> Result<FlatAir<F>, AirError> {
     let c = Constraints::new(alloc, 0)
         .with_public_values(1)
@@ -47,6 +47,8 @@ fn memory<F: Field>(alloc: Global) -> Result<FlatAir<F>, AirError> {
 
 fn main(rt: HostRuntime) -> io::Result<()> {
     let alloc = rt.alloc();
+    // Columns: address, clock, value, is_write, same (as the next row's address), parity, the 8 bits of the gap.
+    // The write at clock 1 stores 5, so the read at clock 3 must return 5.
     for read in [5, 6] {
         let rows = [
             [7, 1, 5, 1, 1, 0, 1, 0, 0, 0, 0, 0, 0, 0],

@@ -1,4 +1,4 @@
-//! A check of a wide AIR, whose constraints an index numbers.
+//! Checks a wide AIR whose constraints are indexed by column.
 #![tactic(auto)]
 
 mod multiples;
@@ -9,7 +9,7 @@ use p3_air::{AirError, BabyBear, ConstraintReport, RowMajorMatrix, check_all_con
 use std::alloc::Global;
 use std::io;
 
-/// The check of 16 rows of 64 columns, in which row r has the multiples of r.
+/// Checks 16 rows of 64 columns; row r holds the multiples of r.
 fn report_on_multiples(alloc: Global) -> Result<ConstraintReport, AirError> {
     let mut cells = Vec::new(alloc);
     for row in 0u32..16 {

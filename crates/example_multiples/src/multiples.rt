@@ -1,4 +1,4 @@
-//! A table of multiples: as many columns as wanted, of which column i begins at zero and rises by i.
+//! A table of multiples with any number of columns: column i starts at zero and increases by i.
 ghost use Rattle.example_multiples.specs.Multiples.{multiples, multiples_of};
 
 use p3_air::author::{
@@ -7,7 +7,7 @@ use p3_air::author::{
 };
 use p3_air::{AirBuilder, AirError, Field};
 
-/// So many columns: column i begins at zero, and rises by i.
+/// The AIR with this many columns: column i starts at zero and increases by i.
 #[derive(Clone, Copy, Drop)]
 pub struct Multiples {
     pub columns: usize,

@@ -1,7 +1,7 @@
-//! The constants of Poseidon2 over BabyBear for a width of 16 and the exponent 7, as the Poseidon2 paper's generator
-//! (Grain, of 31 bits, 8 external and 13 internal rounds) gives them. A state is four times four elements.
+//! The constants of Poseidon2 over BabyBear with width 16 and exponent 7. They come from the Poseidon2 paper's
+//! generator (Grain, 31 bits, 8 external and 13 internal rounds). A state is four groups of four elements.
 
-/// The external rounds' constants, round by round.
+/// The constants of the external rounds, by round.
 pub const EXTERNAL: [[[u64; 4]; 4]; 8] = [
     [
         [1774958255, 1185780729, 1621102414, 1796380621],
@@ -53,14 +53,14 @@ pub const EXTERNAL: [[[u64; 4]; 4]; 8] = [
     ],
 ];
 
-/// The internal rounds' constants.
+/// The constants of the internal rounds.
 pub const INTERNAL: [u64; 13] = [
     1518359488, 1765533241, 945325693, 422793067, 311365592, 1311448267, 1629555936, 1009879353,
     190525218, 786108885, 557776863, 212616710, 605745517,
 ];
 
-/// What an internal round multiplies each element by, before it adds the sum of all: -2, 1, 2, 1/2, 3, 4, -1/2, -3, -4,
-/// 1/2^8, 1/4, 1/8, 1/2^27, -1/2^8, -1/16, -1/2^27.
+/// The factor of each element in an internal round, which then adds the sum of all elements: -2, 1, 2, 1/2, 3, 4, -1/2,
+/// -3, -4, 1/2^8, 1/4, 1/8, 1/2^27, -1/2^8, -1/16, -1/2^27.
 pub const DIAGONAL: [[u64; 4]; 4] = [
     [2013265919, 1, 2, 1006632961],
     [3, 4, 1006632960, 2013265918],

@@ -1,4 +1,4 @@
-//! Poseidon2 over BabyBear, 16 elements wide: prints a permutation, and audits a right trace and a wrong one.
+//! Poseidon2 over BabyBear, width 16: prints one permutation, then audits a correct trace and a wrong one.
 #![tactic(auto)]
 
 mod constants;
@@ -11,7 +11,7 @@ use std::alloc::Global;
 use std::io;
 use trace::{OUTPUT, row_from, trace};
 
-// The permutation of 0 to 15, as text.
+// The output of the permutation of 0 to 15, as text.
 fn permutation_text(alloc: Global) -> Result<String, AirError> {
     let row = row_from(alloc, 0, false)?;
     let mut text = String::new(alloc);

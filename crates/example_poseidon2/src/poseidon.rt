@@ -1,4 +1,4 @@
-//! Poseidon2 as an AIR: a row is a permutation.
+//! Poseidon2 as an AIR: each row is one permutation.
 use crate::constants::{DIAGONAL, EXTERNAL, INTERNAL};
 use p3_air::{AirError, BabyBear, Claims, Constraints, Expr, FlatAir};
 use std::alloc::Global;
@@ -20,7 +20,7 @@ fn sum_of<'a>(x: Four<'a>) -> Element<'a> {
     a + b + c + d
 }
 
-// The matrix of four elements.
+// Multiplies four elements by the 4x4 matrix.
 fn mix_four<'a>(x: Four<'a>) -> Four<'a> {
     let sum = sum_of(x);
     let [a, b, c, d] = x;
@@ -32,7 +32,7 @@ fn mix_four<'a>(x: Four<'a>) -> Four<'a> {
     ]
 }
 
-/// The matrix of the external rounds.
+/// Multiplies by the matrix of the external rounds.
 fn external_layer<'a>(state: State<'a>) -> State<'a> {
     let (w, x, y, z) = state;
     let (w, x, y, z) = (mix_four(w), mix_four(x), mix_four(y), mix_four(z));
@@ -45,7 +45,7 @@ fn external_layer<'a>(state: State<'a>) -> State<'a> {
     )
 }
 
-// Each element times its factor, and the sum added.
+// Multiplies each element by its factor and adds the sum.
 fn scaled<'a>(sum: Element<'a>, x: Four<'a>, factors: [u64; 4]) -> Four<'a> {
     let [a, b, c, d] = x;
     [
@@ -56,7 +56,7 @@ fn scaled<'a>(sum: Element<'a>, x: Four<'a>, factors: [u64; 4]) -> Four<'a> {
     ]
 }
 
-/// The matrix of the internal rounds.
+/// Multiplies by the matrix of the internal rounds.
 fn internal_layer<'a>(state: State<'a>) -> State<'a> {
     let (w, x, y, z) = state;
     let sum = sum_of(w) + sum_of(x) + sum_of(y) + sum_of(z);
@@ -68,7 +68,7 @@ fn internal_layer<'a>(state: State<'a>) -> State<'a> {
     )
 }
 
-/// The seventh power of x, which one column holds, and another the cube.
+/// x^7. One new column holds x^3 and another x^7.
 fn s_box<'a>(c: &'a Constraints<BabyBear>, x: Element<'a>) -> Element<'a> {
     let cube = c.column().current();
     let seventh = c.column().current();
@@ -107,13 +107,13 @@ fn internal_round<'a>(c: &'a Constraints<BabyBear>, state: State<'a>, constant: 
     internal_layer(([s_box(c, w0 + constant), w1, w2, w3], x, y, z))
 }
 
-// Four more columns.
+// Adds four columns.
 fn four<'a>(c: &'a Constraints<BabyBear>) -> Four<'a> {
     let x = c.columns(4);
     [x.current(0), x.current(1), x.current(2), x.current(3)]
 }
 
-// Four more columns hold the elements.
+// Adds four columns and asserts that they hold the elements.
 fn assert_in_columns<'a>(
     c: &'a Constraints<BabyBear>,
     claims: Claims<'a, BabyBear>,
@@ -122,7 +122,7 @@ fn assert_in_columns<'a>(
     claims.assert_eq_arrays(&four(c), &elements);
 }
 
-/// A row holds the permutation's input, the powers of each round, and its output: 314 columns, of degree 3.
+/// A row holds the input, x^3 and x^7 of each S-box, and the output: 314 columns, degree 3.
 pub fn poseidon(alloc: Global) -> Result<FlatAir<BabyBear>, AirError> {
     let c = Constraints::new(alloc, 0);
     let mut state = external_layer((four(&c), four(&c), four(&c), four(&c)));

@@ -5,7 +5,7 @@ use std::alloc::Global;
 
 type Four = [BabyBear; 4];
 
-/// Four times four elements.
+/// Four groups of four elements.
 type State = (Four, Four, Four, Four);
 
 fn add_four(x: Four, y: Four) -> Four {
@@ -67,7 +67,7 @@ fn internal_layer(state: State) -> State {
     )
 }
 
-// The seventh power of x + n; it and the cube are added to the row.
+// (x + n)^7; pushes the cube and the seventh power to the row.
 fn s_box(row: &mut Vec<BabyBear>, x: BabyBear, n: u64) -> Result<BabyBear, AirError> {
     let x = x.add(BabyBear::from_u64(n));
     let cube = x.mul(x).mul(x);
@@ -115,10 +115,10 @@ fn push_state(row: &mut Vec<BabyBear>, state: State) -> Result<(), AirError> {
     Ok(())
 }
 
-/// Where the output is in a row.
+/// The column where the output begins.
 pub const OUTPUT: usize = 298;
 
-// Adds the row of a permutation.
+// Pushes the row of one permutation.
 fn push_permutation(row: &mut Vec<BabyBear>, input: State) -> Result<(), AirError> {
     push_state(row, input)?;
     let mut state = external_layer(input);
@@ -141,7 +141,7 @@ fn four_from(n: u64) -> Four {
     [x, x.add(one), x.add(two), x.add(two).add(one)]
 }
 
-// The elements n, n + 1 and so on.
+// The elements n to n + 15.
 fn numbers_from(n: u64) -> State {
     (
         four_from(n),
@@ -151,7 +151,7 @@ fn numbers_from(n: u64) -> State {
     )
 }
 
-/// The row of the permutation of n, n + 1 and so on; a wrong one has an output whose first element is one too great.
+/// The row for the input n to n + 15. In a wrong row the first output is one too great.
 pub fn row_from(alloc: Global, n: u64, is_wrong: bool) -> Result<Vec<BabyBear>, AirError> {
     let mut row = Vec::new(alloc);
     push_permutation(&mut row, numbers_from(n))?;
@@ -163,7 +163,7 @@ pub fn row_from(alloc: Global, n: u64, is_wrong: bool) -> Result<Vec<BabyBear>, 
     Ok(row)
 }
 
-/// The permutations of four inputs, of which one row may be wrong.
+/// The permutations of four inputs; row `wrong`, if given, is wrong.
 pub fn trace(alloc: Global, wrong: Option<u64>) -> Result<RowMajorMatrix<BabyBear>, AirError> {
     let mut rows = TraceRows::new(alloc, 314);
     for n in 0..4 {

@@ -2,7 +2,7 @@
 use Rattle.std.specs.Prelude.{List, ◌++◌}
 use Rattle.p3_air.specs.Author.{CommRing, Assertion, current, permutation_current, permutation_next, challenge, permutation_value, first_row, last_row, transition, ◌⊕◌, ◌⊙◌, ◌≐ₑ◌, ext_is_one, when}
 
--- the product begins at one, takes each row's factor, and ends as the exposed value
+-- the product starts at one, is multiplied by each row's factor, and ends as the exposed value
 abbrev pub running_product : {F : Type 0} → CommRing F → List (Assertion F)
 running_product R =
     let product = permutation_current 0 in

@@ -1,4 +1,4 @@
-//! Running products, checked one row at a time: a column and a permutation of it expose one value.
+//! Running products, checked one row at a time: a column and its permutation expose the same value.
 #![tactic(auto)]
 
 mod product;
@@ -7,7 +7,7 @@ use p3_air::{BinomialExtensionField as Extension, *};
 use product::RunningProduct;
 use std::alloc::Global;
 
-/// A line for each row: the constraints that fail on it.
+/// One line for each row: the constraints that fail on it.
 fn report_on(
     alloc: Global,
     air: &RunningProduct,
@@ -22,8 +22,7 @@ fn report_on(
     Ok(text)
 }
 
-/// With X for the root, whose fourth power is 11, the challenge is 11 + X, and what is exposed is
-/// (13 + X)(14 + X)(16 + X)(18 + X).
+/// With X the root (X^4 = 11), the challenge is 11 + X, and the exposed value is (13 + X)(14 + X)(16 + X)(18 + X).
 fn report_of(alloc: Global, numbers: [u64; 4]) -> Result<String, AirError> {
     let challenge = Extension::from_basis_coefficients(&[11, 1, 0, 0].map(BabyBear::new));
     let exposed = Extension::from_basis_coefficients(&[52427, 13964, 1388, 61].map(BabyBear::new));

@@ -1,9 +1,9 @@
-//! A running product over the extension: behind the last row it is the value that is exposed.
+//! A running product over the extension: the product of all rows is the exposed value.
 ghost use Rattle.example_product.specs.Product.{running_product};
 
 use p3_air::author::*;
 
-/// Column 0 of the permutation trace is one on row 0, and each row multiplies it by the challenge plus its column 0.
+/// Column 0 of the permutation trace is one on row 0. Each row multiplies it by the challenge plus main column 0.
 pub struct RunningProduct;
 
 impl<F: Field> PlainAir<F> for RunningProduct {

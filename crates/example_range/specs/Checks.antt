@@ -1,8 +1,8 @@
--- What a checked trace says.
+-- What a passing trace satisfies.
 use Rattle.std.specs.Prelude.{ℕ, ◌^◌, ◌<◌, [], length}
 use Rattle.p3_air.specs.Author.{CommRing, current}
 use Rattle.p3_air.specs.Claims.{row_assignment, Grid, plain_trace, IsNumberBelow}
 
--- at each row the value is the image of a number below 2^16
+-- at each row, the value in column 0 is the image of a number below 2^16
 abbrev pub AllBelow : {F : Type 0} → CommRing F → Grid F → Type 0
 AllBelow R trace = (row : ℕ) → row < length trace.rows → IsNumberBelow R (row_assignment R (plain_trace trace []) row) (2 ^ 16) (current 0)

@@ -1,4 +1,4 @@
-//! What a checked trace says.
+//! What a passing trace satisfies.
 ghost use Rattle.std.specs.Prelude.{OnOk};
 ghost use Rattle.example_range.specs.Checks.{AllBelow};
 
@@ -7,7 +7,7 @@ use p3_air::author::Plain;
 use p3_air::{CheckError, PrimeField, RowMajorMatrix, check_constraints};
 use std::alloc::Global;
 
-/// Checks a trace. It is Ok only if each value is below 2^16.
+/// Checks a trace. `Ok` implies that each value is below 2^16.
 pub fn check_range<F: PrimeField + 'static>(
     alloc: Global,
     trace: &RowMajorMatrix<F>,

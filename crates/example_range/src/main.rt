@@ -1,4 +1,4 @@
-//! Checks of values that have 16 bits, and of values that haven't.
+//! Checks values that fit 16 bits, and values of which one does not.
 #![tactic(auto)]
 
 mod checks;

@@ -1,10 +1,10 @@
-//! A range check: column 0 is a number of 16 bits, which stand in the columns behind it, the lowest first.
+//! A range check: column 0 is a number of 16 bits, and columns 1 to 16 are its bits, lowest first.
 ghost use Rattle.example_range.specs.Range.{range};
 
 use p3_air::author::{Columns, HasBits, PlainAir, PlainConstraints, assert_all, current};
 use p3_air::{AirBuilder, AirError, Field};
 
-/// The value has the 16 bits behind it.
+/// Columns 1 to 16 are the bits of column 0, lowest first.
 pub struct Range {}
 
 impl<F: Field> PlainAir<F> for Range {

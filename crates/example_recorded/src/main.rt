@@ -1,4 +1,4 @@
-//! An AIR that is recorded: no list is declared, and the recorded terms are what the audit speaks of.
+//! An AIR without a declared list: its constraints are recorded, and the audit is about the recorded terms.
 #![tactic(auto)]
 
 use p3_air::author::{FirstRow, IsOne, LastRow, Transition, When, current, next, public};
@@ -9,7 +9,7 @@ use p3_air::{
 use std::alloc::Global;
 use std::io;
 
-/// Column 0 begins at one, doubles from row to row, and ends as the public value.
+/// Column 0 starts at one, doubles from row to row, and ends as the public value.
 fn assert_doubling<AB: AirBuilder>(builder: &mut AB) -> Result<(), AirError>
     requires { AB.ready builder.old }
     ensures { AB.ready builder.new }
@@ -33,7 +33,7 @@ fn record_doubling<F: Field>(alloc: Global) -> Result<FlatAir<F>, AirError> {
     recorded_air(recorded, 1, 1, Vec::new(alloc), Vec::new(alloc))
 }
 
-/// The audit of four rows that end as this value.
+/// Audits four rows whose last value is `last`.
 fn audit_of(alloc: Global, last: u32) -> Result<Audit<BabyBear>, AirError> {
     let air: FlatAir<BabyBear> = record_doubling(alloc)?;
     let mut cells = Vec::new(alloc);

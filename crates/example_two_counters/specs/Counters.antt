@@ -1,4 +1,4 @@
--- The constraints of a counter, and of two of them beside each other.
+-- The constraints of one counter, and of two side by side.
 use Rattle.std.specs.Prelude.{ℕ, List, ◌++◌}
 use Rattle.p3_air.specs.Author.{CommRing, Assertion, current, next, first_row, last_row, transition}
 use Rattle.p3_air.specs.Author.{◌⊕◌, ◌≐◌, is_zero, boolean, when, move_columns}
@@ -12,6 +12,6 @@ one_counter R =
     when first_row (is_zero (current count)) ++
     when transition (next count ≐ current count ⊕ current bit)
 
--- a counter in the columns 0 and 1, one in 2 and 3, and on the last row one count is the other
+-- one counter in columns 0 and 1, another in columns 2 and 3, and equal counts on the last row
 abbrev pub counters : {F : Type 0} → CommRing F → List (Assertion F)
 counters R = move_columns 0 (one_counter R) ++ (move_columns 2 (one_counter R) ++ when last_row (current 1 ≐ current 3))

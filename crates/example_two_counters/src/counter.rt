@@ -1,4 +1,4 @@
-//! A counter that may stand in another AIR: a bit, and behind it the count of the bits above that were one.
+//! A counter that another AIR can include: a bit, and in the next column the number of bits above that were one.
 ghost use Rattle.example_two_counters.specs.Counters.{one_counter};
 
 use p3_air::author::{

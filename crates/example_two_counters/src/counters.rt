@@ -1,11 +1,11 @@
-//! Two counters beside each other, which end at one count.
+//! Two counters side by side whose last counts are equal.
 ghost use Rattle.example_two_counters.specs.Counters.{counters};
 
 use crate::counter::Counter;
 use p3_air::author::{LastRow, Moved, PlainAir, PlainConstraints, When, assert_all, current};
 use p3_air::{AirBuilder, AirError, Field};
 
-/// Each is a counter, and on the last row one count is the other.
+/// Two counters, with equal counts on the last row.
 #[derive(Clone, Copy, Drop)]
 pub struct Counters;
 

@@ -1,4 +1,4 @@
-//! Checks of two counters, one AIR's constraints twice in another.
+//! Checks an AIR that includes another AIR's constraints twice.
 #![tactic(auto)]
 
 mod counter;

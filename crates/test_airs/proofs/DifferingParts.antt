@@ -40,12 +40,11 @@ pub if_err : {T X : Type 0} {P Q : X → Type 0} (r : Result T X) → ((e : X) �
 if_err (Ok u) f h = tt
 if_err (Err e) f h = f e h
 
--- what holds of a builder and an element holds of equal ones
+-- a property of a builder and an element, for equal ones
 pub moved : {S E : Type 0} (P : S → E → Type 0) {a b : S} {x y : E} → b ≡ a → y ≡ x → P a x → P b y
 moved P {a = a} {y = y} p q h = subst (λ s. P s y) (sym p) (subst (λ z. P a z) (sym q) h)
 
--- what is known inside the filter: the builder grew by nothing, its condition means the difference, and the cells that are
--- asserted mean their columns
+-- the state inside the filter: the builder asserted nothing yet, its condition means the difference, and x and y mean their columns
 pub record Inside {S E F : Type 0} (grew : S → S → List (Assertion F) → Type 0) (means : S → E → Term F → Type 0) (a b : S)
     (condition x y : E) : Type 0 where
   pub grown : grew a b []
@@ -56,7 +55,7 @@ pub record Inside {S E F : Type 0} (grew : S → S → List (Assertion F) → Ty
 module _ {S R E F : Type 0} {view : BuilderView S R E F} (ring : RingLaws view) (laws : BuilderLaws view) where
   open view use {grew, refuses}
 
-  -- what a call answers that refuses after it asserted the first n of a list
+  -- the result of a call that fails after the first n assertions of a list
   pub ended : (a b : S) (e : AirError) (ts : List (Assertion F)) (n : ℕ) → n < length ts → grew a b (take n ts)
       → refuses a e ts → AssertedAllIn view a b (Err e) ts
   ended a b e ts n within grown refused = record {
@@ -66,7 +65,7 @@ module _ {S R E F : Type 0} {view : BuilderView S R E F} (ring : RingLaws view) 
     refused = refused;
   }
 
-  -- what a call answers that asserted all of it
+  -- the result of a call that makes all assertions of a list
   pub completed : (a b : S) (u : ⊤) (ts : List (Assertion F)) → grew a b ts → AssertedAllIn view a b (Ok u) ts
   completed a b u ts grown = record { keeps = laws.by_growth a b ts grown; ok = grown; err = tt; refused = tt }
 

@@ -1,4 +1,4 @@
-//! The AIRs of tables: a list of constraints, with what stands beside.
+//! The AIRs of tables: a list of constraints, and the other parts of an AIR.
 ghost use Rattle.test_airs.specs.declared.lists.Constraints.TheVariants.{Base, Permutation, Labelled};
 ghost use Rattle.test_airs.specs.TableAirs.{labelled_asserts};
 ghost use Rattle.air_audit.specs.FlatAirs.{zero_at_roots};
@@ -20,9 +20,9 @@ use example_fibonacci::Fibonacci;
 #[derive(Drop)]
 pub struct TableAir<F: Field> {
     pub constraints: Constraints,
-    /// The expressions of lines, and what stands beside the constraints, whichever these are.
+    /// The expressions of the lines and the other parts of the AIR. The parts apply to every list of constraints.
     pub flat: FlatAir<F>,
-    /// The preprocessed table.
+    /// The preprocessed trace.
     pub table: Option<RowMajorMatrix<F>>,
 }
 
@@ -63,7 +63,7 @@ impl<F: Field> BaseAir<F> for TableAir<F> {
     }
 }
 
-/// The AIR of a table's list, of one kind. Each kind is bound by one trait of builders.
+/// The AIR of one kind of list. Each kind needs only one builder trait.
 #[derive(Drop)]
 pub struct ListAir<'a, F: Field, C> {
     pub list: C,

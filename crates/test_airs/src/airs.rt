@@ -10,13 +10,13 @@ use std::alloc::Global;
 use std::mem;
 use test_lines::{Fault, Line, Names, Why};
 
-/// The expressions that lines have made, and the AIRs.
+/// The expressions and the AIRs that lines have made.
 #[derive(Drop)]
 pub struct Airs<'a, F: Field> {
     pub pool: NamedPool<'a, BaseLeaf<F>>,
     airs: Vec<TableAir<F>>,
     names: Names<'a, usize>,
-    /// Whether the pool is gone with an AIR that was refused.
+    /// Whether the pool was lost in a failed attempt to make an AIR.
     lost: bool,
 }
 
@@ -38,7 +38,7 @@ impl<'a, F: Field> Airs<'a, F> {
         }
     }
 
-    // Gives a name to the AIR that is made next, whose expressions are to be of the pool.
+    // Names the AIR that is made next. Its expressions must be in the pool.
     fn name_next(&mut self, name: &'a str, roots: &[ExprId<BaseLeaf<F>>]) -> Result<(), Fault>
         ensures { OnOk result (All (λ x. x < size self.new.pool) roots.now) }
     {
@@ -49,7 +49,7 @@ impl<'a, F: Field> Airs<'a, F> {
         self.names.bind(name, self.airs.len(), false)
     }
 
-    // The AIR of some parts. It takes the pool, so that the names of expressions stand for nothing then.
+    // The AIR of these parts. It takes the pool, so afterwards names of expressions have no value.
     fn air_of(
         &mut self,
         parts: Parts<F>,
@@ -82,7 +82,7 @@ impl<'a, F: Field> Airs<'a, F> {
         Ok(())
     }
 
-    // Gives an AIR its name.
+    // Makes the AIR of these parts, and names it.
     fn keep(
         &mut self,
         name: &'a str,
@@ -94,7 +94,7 @@ impl<'a, F: Field> Airs<'a, F> {
         self.push(air)
     }
 
-    // Takes the words of an AIR: which expressions are to be zero, and what stands beside them.
+    // Reads the words of an AIR: the expressions that are zero, and its other parts.
     fn take(
         &self,
         words: &[&str],
@@ -111,7 +111,7 @@ impl<'a, F: Field> Airs<'a, F> {
         Ok(())
     }
 
-    // Makes the AIR of some words.
+    // Makes the AIR of the words.
     fn make(&mut self, name: &'a str, words: &[&str]) -> Result<(), Fault> {
         let mut parts = Parts::new(self.names.alloc());
         let mut roots = Vec::new(self.names.alloc());
@@ -124,7 +124,7 @@ impl<'a, F: Field> Airs<'a, F> {
         Ok(true)
     }
 
-    /// Makes the expression or the AIR of a line, if it makes one.
+    /// Makes the expression or the AIR of a line. Returns whether the line is such a call.
     pub fn answer(&mut self, line: &Line<'a>) -> Result<bool, Fault> {
         match (line.words.as_slice(), line.name) {
             (["air", words @ ..], Some(name)) => self.answer_air(name, words),
@@ -132,8 +132,8 @@ impl<'a, F: Field> Airs<'a, F> {
         }
     }
 
-    /// Adds the numbers of the expressions that have names: a refused call may leave nodes that nothing names. Where an
-    /// AIR was refused that had taken the pool, no line can be tried any more.
+    /// Adds the numbers of the named expressions; nodes without names are left out, since a failed call may leave some.
+    /// If making an AIR failed after it took the pool, this fails, and no more lines can be tried.
     pub fn show_state(&self, text: &mut String) -> Result<(), Fault> {
         if self.lost {
             return Err(Fault::Memory);

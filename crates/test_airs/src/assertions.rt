@@ -1,5 +1,5 @@
-//! Assertions over constants, by the words of their calls. A call knows the builder by its traits alone. Calls on as many
-//! elements stand together: the elements are made first, by one loan of the ring, and then the call is one of them.
+//! Assertions over constants, by the words of their calls, on any builder. Calls with the same operands share a
+//! function: it makes the elements first, in one borrow of the ring, and then makes the call.
 ghost use Rattle.std.specs.Prelude.{◌≡◌, [], ◌∷◌, All, IfOk, OnOk};
 
 use crate::constants::{
@@ -82,7 +82,7 @@ fn assert_each<AB: AirBuilder>(
     Ok(assert_each_as(builder, word, &list)?)
 }
 
-// Asserts that the elements of two lists are equal, of which the words are the first half and the second.
+// Asserts that two lists are equal: the first half of the words, and the second half.
 fn assert_lists<AB: AirBuilder>(
     alloc: Global,
     builder: &mut AB,
@@ -160,7 +160,7 @@ fn assert_one_ext_of<AB: ExtensionBuilder>(
     Ok(assert_one_ext_as(builder, word, x)?)
 }
 
-// A list of two elements. (An array of a builder's elements owes a bound on its size, which no clause can give.)
+// A list of two elements. (An array of a builder's elements would need a bound on its size, which no clause can state.)
 fn both<E: Copy>(alloc: Global, x: E, y: E) -> Result<Vec<E>, Fault>
     ensures { IfOk result (λ list. list.items ≡ x ∷ y ∷ []) }
 {
@@ -350,7 +350,7 @@ fn assert_eq_ext_named_of<AB: NamedExtensionBuilder, N: Namespace>(
     Ok(builder.assert_eq_ext_named(x, y, name)?)
 }
 
-// Makes an assertion on elements of the base under a name.
+// Makes an assertion on elements of the base field, under a name.
 fn assert_named_base<AB: NamedAirBuilder, N: Namespace>(
     alloc: Global,
     builder: &mut AB,
@@ -397,7 +397,7 @@ fn assert_under_name<AB: NamedExtensionBuilder, N: Namespace>(
     }
 }
 
-// How many words stand before `under`.
+// The number of words before `under`.
 fn words_before_name(call: &[&str]) -> usize {
     let mut count = 0usize;
     for word in call {
@@ -409,7 +409,7 @@ fn words_before_name(call: &[&str]) -> usize {
     count
 }
 
-// Makes an assertion on elements of the base that has no name.
+// Makes an assertion without a name on elements of the base field.
 fn assert_bare_base<AB: AirBuilder>(
     alloc: Global,
     builder: &mut AB,
@@ -428,7 +428,7 @@ fn assert_bare_base<AB: AirBuilder>(
     }
 }
 
-// Makes an assertion that has no name.
+// Makes an assertion without a name.
 fn assert_bare<AB: ExtensionBuilder>(
     alloc: Global,
     builder: &mut AB,
@@ -449,7 +449,7 @@ fn assert_bare<AB: ExtensionBuilder>(
     }
 }
 
-/// Makes an assertion: behind it may stand `under` and a name, or up to three that stand under each other.
+/// Makes an assertion. After it may follow `under` and one to three names, each nested in the one before.
 pub fn assert_this<AB: NamedExtensionBuilder>(
     alloc: Global,
     builder: &mut AB,

@@ -34,7 +34,7 @@ pub fn two_constants<F: Field, R: Algebra<F>>(
     Ok((x, y))
 }
 
-// Whether all are of the ring.
+// Whether all elements are in the ring.
 fn contains_all<F: Field, R: Algebra<F>>(ring: &R, all: &[R::Elem]) -> bool
     requires { R.valid ring.now }
     ensures { IsTrue result → All (R.has ring.now) all.now }
@@ -47,7 +47,7 @@ fn contains_all<F: Field, R: Algebra<F>>(ring: &R, all: &[R::Elem]) -> bool
     true
 }
 
-/// The constants of any count of numbers. That all are of the ring is tested at run time.
+/// The constants of a list of numbers. Whether all are in the ring is tested at run time.
 pub fn constants<F: Field, R: Algebra<F>>(
     alloc: Global,
     ring: &mut R,

@@ -1,4 +1,4 @@
-//! An AIR whose `eval` is written against the calls of the builder, under a condition that is a difference.
+//! An AIR whose `eval` calls the builder directly, under a condition that is a difference.
 ghost use Rattle.std.specs.Prelude.{OnOk, IfOk, IfErr, []};
 ghost use Rattle.air_field.specs.Term.{main};
 ghost use Rattle.air_builder.specs.Batches.{AssertedAllIn, Evaluates};
@@ -9,7 +9,7 @@ ghost use Rattle.test_airs.specs.Differing.{differing_asserts, RowMeans, Refuses
 
 use air_audit::{AirBuilder, AirError, Algebra, BaseEntry, FromVar, View};
 
-/// The cells of a row.
+/// The values of columns 0, 1 and 2 at a row.
 #[derive(Clone, Copy)]
 struct Row<E> {
     x: E,
@@ -17,7 +17,7 @@ struct Row<E> {
     z: E,
 }
 
-/// The cell of a column at the current row, or the refusal that names it.
+/// The value of a column at the current row. If the column is missing, the error names it.
 fn read_cell<AB: AirBuilder>(builder: &mut AB, column: usize) -> Result<AB::Expr, AirError>
     requires { AB.ready builder.old }
     ensures keeps { AB.grew builder.old builder.new [] }
@@ -64,7 +64,7 @@ fn assert_row<AB: AirBuilder>(builder: &mut AB, row: Row<AB::Expr>) -> Result<()
     Ok(())
 }
 
-/// Columns x, y and z: where y and z differ, x is a bit, and it is y.
+/// Columns x, y and z: where y and z differ, x is a bit and equals y.
 pub fn assert_differing<AB: AirBuilder>(builder: &mut AB) -> Result<(), AirError>
     requires { AB.ready builder.old }
     ensures { Evaluates ⟦<AB as View>⟧.view builder.old builder.new result

@@ -1,4 +1,4 @@
-//! Assertions under filters, and under a filter over a filter: a filter is itself a builder.
+//! Assertions under one filter, or under a filter on a filter, since a filter is itself a builder.
 ghost use Rattle.std.specs.Prelude.{OnOk};
 
 use crate::assertions::assert_this;
@@ -7,7 +7,7 @@ use air_builder::{AirBuilder, FilteredAirBuilder, NamedExtensionBuilder};
 use std::alloc::Global;
 use test_lines::{Fault, Why};
 
-// Makes an assertion on a filter. (That a filter is a builder is dear to prove, so the others call this.)
+// Makes an assertion on a filter. (That a filter is a builder is slow to prove, so the other functions call this one.)
 fn assert_on<'a, AB: NamedExtensionBuilder>(
     alloc: Global,
     filter: &mut FilteredAirBuilder<'a, AB>,
@@ -20,7 +20,7 @@ fn assert_on<'a, AB: NamedExtensionBuilder>(
     Ok(assert_this(alloc, filter, call)?)
 }
 
-// Makes an assertion where a condition holds.
+// Makes an assertion under a condition.
 fn assert_when<AB: NamedExtensionBuilder>(
     alloc: Global,
     builder: &mut AB,
@@ -91,7 +91,7 @@ fn assert_on_transition<AB: NamedExtensionBuilder>(
     Ok(assert_on(alloc, &mut filter, call)?)
 }
 
-// Makes an assertion on the transitions of windows of two rows.
+// Makes an assertion on the transitions of two-row windows.
 fn assert_in_window<AB: NamedExtensionBuilder>(
     alloc: Global,
     builder: &mut AB,
@@ -107,7 +107,7 @@ fn assert_in_window<AB: NamedExtensionBuilder>(
     Ok(assert_on(alloc, &mut filter, call)?)
 }
 
-// Makes an assertion where the element behind `when` isn't zero.
+// Makes an assertion under the condition given by the word after `when`.
 fn assert_where<AB: NamedExtensionBuilder>(
     alloc: Global,
     builder: &mut AB,
@@ -123,7 +123,7 @@ fn assert_where<AB: NamedExtensionBuilder>(
     assert_when(alloc, builder, x, call)
 }
 
-// Makes an assertion where the two elements behind `when_ne` differ.
+// Makes an assertion where the two elements after `when_ne` differ.
 fn assert_where_differs<AB: NamedExtensionBuilder>(
     alloc: Global,
     builder: &mut AB,
@@ -139,7 +139,7 @@ fn assert_where_differs<AB: NamedExtensionBuilder>(
     assert_when_ne(alloc, builder, x, y, call)
 }
 
-// Makes an assertion, or makes it on the filter that stands before it.
+// Makes an assertion, on the filter named before it, if any.
 fn assert_under<AB: NamedExtensionBuilder>(
     alloc: Global,
     builder: &mut AB,
@@ -162,7 +162,7 @@ fn assert_under<AB: NamedExtensionBuilder>(
     }
 }
 
-// Makes an assertion under what stands before it, where a condition holds.
+// Makes an assertion under a condition, and on the filter named before it, if any.
 fn assert_under_when<AB: NamedExtensionBuilder>(
     alloc: Global,
     builder: &mut AB,
@@ -177,7 +177,7 @@ fn assert_under_when<AB: NamedExtensionBuilder>(
     Ok(assert_under(alloc, &mut filter, call)?)
 }
 
-// Makes an assertion on the filter of `when`, or on one over it.
+// Makes an assertion under the condition after `when`, and on a second filter, if any.
 fn assert_under_first<AB: NamedExtensionBuilder>(
     alloc: Global,
     builder: &mut AB,
@@ -193,7 +193,7 @@ fn assert_under_first<AB: NamedExtensionBuilder>(
     assert_under_when(alloc, builder, x, call)
 }
 
-// Makes an assertion, or makes it on the one or two filters that stand before it.
+// Makes an assertion, on the one or two filters named before it, if any.
 fn assert_under_both<AB: NamedExtensionBuilder>(
     alloc: Global,
     builder: &mut AB,
@@ -208,7 +208,7 @@ fn assert_under_both<AB: NamedExtensionBuilder>(
     }
 }
 
-// The same, after which the builder is ready for more.
+// Makes an assertion, after which the builder is ready.
 fn assert_next<AB: NamedExtensionBuilder>(
     alloc: Global,
     builder: &mut AB,
@@ -220,7 +220,7 @@ fn assert_next<AB: NamedExtensionBuilder>(
     Ok(assert_under_both(alloc, builder, call)?)
 }
 
-/// Makes the assertions between which `;` stands, in order.
+/// Makes the assertions, separated by `;`, in order.
 pub fn assert_all<AB: NamedExtensionBuilder>(
     alloc: Global,
     builder: &mut AB,

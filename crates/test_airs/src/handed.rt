@@ -1,4 +1,4 @@
-//! An AIR with a gadget that is handed an expression.
+//! An AIR with a gadget that receives an expression.
 ghost use Rattle.air_builder.specs.Batches.{AssertedIn, Evaluates};
 ghost use Rattle.air_builder.specs.Notation.{next, transition, when, ◌≐◌};
 ghost use Rattle.air_author.specs.Expressions.{AlwaysAfter, IsUsableIn};
@@ -9,7 +9,7 @@ use air_audit::author::{
 };
 use air_audit::{AirBuilder, AirError, View};
 
-/// The gadget: column 1 of the next row is x, which was made of a value.
+/// The gadget: column 1 of the next row equals x, an expression made from a value.
 fn next_is<AB: AirBuilder, X: Expression<AB>>(
     builder: &mut AB,
     x: AB::Expr,
@@ -27,7 +27,7 @@ fn next_is<AB: AirBuilder, X: Expression<AB>>(
     )
 }
 
-/// Column 1 of the next row is the sum of this row's columns.
+/// Column 1 of the next row is the sum of this row's columns 0 and 1.
 pub fn assert_handed<AB: AirBuilder>(builder: &mut AB) -> Result<(), AirError>
     requires { AB.ready builder.old }
     ensures { Evaluates ⟦<AB as View>⟧.view builder.old builder.new result handed_asserts }

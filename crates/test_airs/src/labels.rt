@@ -1,10 +1,10 @@
-//! Names that stand as words.
+//! Names given as words.
 ghost use Rattle.std.specs.Prelude.{◌≡◌, Some, ⊤};
 
 use air_core::{Name, Namespace, NamespaceExt};
 use std::alloc::AllocError;
 
-/// The name of a word; `-` is the empty one.
+/// The name of a word; `-` is the empty name.
 #[derive(Clone, Copy, Drop)]
 pub struct Label<'a>(&'a str);
 

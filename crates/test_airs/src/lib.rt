@@ -1,6 +1,6 @@
-//! What the tables of builders, of checks and of recordings share: assertions over constants, by the words of their calls,
-//! on any builder ([`assert_all`]); and the AIRs of the tables, and the words by which lines make them: [`TableAir`] is
-//! the one type of all, [`Airs`] what the lines of a table have made.
+//! Shared parts of the tables of builders, checks and recordings. [`assert_all`] makes assertions over constants on any
+//! builder, by the words of their calls. [`TableAir`] is the type of all AIRs of the tables, and [`Airs`] holds those
+//! that the lines of a table have made.
 #![tactic(auto)]
 
 pub mod air;

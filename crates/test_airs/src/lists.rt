@@ -1,4 +1,4 @@
-//! The named lists of constraints, a type for each set of builders that constraints may need.
+//! The named lists of constraints, one type for each set of builder traits that they need.
 ghost use Rattle.std.specs.Prelude.{List};
 ghost use Rattle.air_builder.specs.Assertion.{Assertion};
 
@@ -7,27 +7,27 @@ use std::alloc::AllocError;
 
 /// A kind of constraints.
 pub trait Declared<F> {
-    /// What is asserted, where the expressions of lines assert these.
+    /// The assertions of this kind. The argument is the list that the expressions of lines assert.
     ghost declared: { Self → List (Assertion F) → List (Assertion F) };
 }
 
-/// Constraints over the base field alone.
+/// Constraints over the base field only.
 pub enum BaseList {
-    /// The expressions of lines are zero.
+    /// The expressions of the lines are zero.
     Lines,
     /// The Fibonacci constraints, without labels.
     Fibonacci,
-    /// The same with labels.
+    /// The Fibonacci constraints, with labels.
     FibonacciNamed,
-    /// Column 0, raised to this power eight times, is zero.
+    /// Column 0, raised to this power eight times in a row, is zero.
     Steep(usize),
-    /// Column 1 of the next row is the sum of this row's columns, which a gadget is handed.
+    /// Column 1 of the next row is the sum of this row's columns 0 and 1, by a gadget that receives the sum.
     Handed,
-    /// Columns x, y and z: where y and z differ, x is a bit, and it is y. It is written against the builder.
+    /// Columns x, y and z: where y and z differ, x is a bit and equals y. This one calls the builder directly.
     Differing,
 }
 
-// A derived clone goes through the cases, which takes long to prove.
+// A derived clone goes through the cases, which is slow to prove.
 impl Clone for BaseList {
     fn clone(&self) -> Result<Self, AllocError> {
         Ok(*self)
@@ -57,7 +57,7 @@ impl<F: Field> Declared<F> for BaseList {
 pub enum PermutationList {
     /// Permutation 0 times challenge 0 is permutation value 0.
     Permuted,
-    /// Column 0 is zero; then that one; then column 1 is zero.
+    /// Column 0 is zero; the constraint of `Permuted`; column 1 is zero.
     Mixed,
 }
 
@@ -79,7 +79,8 @@ impl<F> Declared<F> for PermutationList {
     ] };
 }
 
-/// Column 0 is zero, `base`; column 1 is zero over the extension, `lifted`; then column 0 is so, without a label.
+/// Column 0 is zero, labelled `base`; column 1 is zero over the extension, labelled `lifted`; then column 0 is zero
+/// over the extension, without a label.
 #[derive(Clone, Copy)]
 pub struct LabelledList;
 

@@ -1,4 +1,4 @@
-//! What stands beside the expressions of an AIR.
+//! The parts of an AIR other than its expressions.
 
 use crate::lists::{BaseList, Constraints, PermutationList};
 use crate::words::{cell_of, trace_of};
@@ -7,7 +7,7 @@ use std::alloc::Global;
 use test_lines::words::{count_of, listed_elements};
 use test_lines::{Fault, Why};
 
-/// The parts of an AIR but its expressions.
+/// The parts of an AIR other than its expressions.
 #[derive(Drop)]
 pub struct Parts<F: Field> {
     pub constraints: Constraints,
@@ -69,7 +69,7 @@ impl<F: Field> Parts<F> {
         Ok(self.cells.push(cell)?)
     }
 
-    /// Sets what a word `KEY:VALUE` says.
+    /// Sets the part that a word `KEY:VALUE` gives.
     pub fn set(&mut self, key: &str, value: &str) -> Result<(), Fault> {
         match key {
             "width" | "public" | "steep" => {
@@ -83,7 +83,7 @@ impl<F: Field> Parts<F> {
         }
     }
 
-    /// Takes the named list of constraints.
+    /// Sets the named list of constraints.
     pub fn take(&mut self, word: &str) -> Result<(), Fault> {
         self.constraints = named_constraints(word)?;
         Ok(())

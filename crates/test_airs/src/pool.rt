@@ -1,5 +1,5 @@
-//! A well-formed pool, whose expressions go by the names that lines give them: what a name stands for is tested at run
-//! time to be of the pool.
+//! A well-formed pool whose expressions are named by lines. Whether a name's value belongs to the pool is tested at run
+//! time.
 ghost use Rattle.std.specs.Prelude.{◌<◌, IsTrue, All, IfOk};
 ghost use Rattle.air_symbolic.specs.Pools.{size};
 
@@ -47,7 +47,7 @@ impl<'a, A: SymLeaf> NamedPool<'a, A> {
         }
     }
 
-    /// Whether all are of the pool.
+    /// Whether all expressions are in the pool.
     pub fn contains_all(&self, xs: &[ExprId<A>]) -> bool
         ensures { IsTrue result → All (λ x. x < size self.now) xs.now }
     {
@@ -95,7 +95,7 @@ impl<'a, A: SymLeaf> NamedPool<'a, A> {
         Ok(Some(self.pool.constant(c)?))
     }
 
-    // The expression that an operation makes, if the call is one.
+    // The expression that an operation makes, or `None` if the call is no operation.
     fn make_operation(
         &mut self,
         call: &str,
@@ -125,7 +125,7 @@ impl<'a, A: SymLeaf> NamedPool<'a, A> {
         self.keep(line, x)
     }
 
-    // Makes the expression of an operation, if the line is one, and gives it the line's name.
+    // Makes the expression of an operation and names it. Returns whether the line is such a call.
     fn answer_operation(
         &mut self,
         line: &Line<'a>,
@@ -143,14 +143,14 @@ impl<'a, A: SymLeaf> NamedPool<'a, A> {
 }
 
 impl<'a, F: Field> NamedPool<'a, BaseLeaf<F>> {
-    // Makes the leaf of a line, and gives it the line's name.
+    // Makes the leaf of a line and names it.
     fn answer_leaf(&mut self, line: &Line<'a>, leaf: &[&str]) -> Result<bool, Fault> {
         let leaf = leaf_of(leaf)?;
         self.keep_leaf(line, leaf)?;
         Ok(true)
     }
 
-    /// Makes the expression of a line, if it makes one, and gives it the line's name.
+    /// Makes the expression of a line and names it. Returns whether the line is such a call.
     pub fn answer(&mut self, line: &Line<'a>) -> Result<bool, Fault> {
         let [call, operands @ ..] = line.words.as_slice() else {
             return Ok(false);

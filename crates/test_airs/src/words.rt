@@ -1,4 +1,4 @@
-//! Words as leaves, traces, cells and caps.
+//! Words as leaves, traces, boundary values and caps.
 
 use air_audit::{
     BaseEntry, BaseLeaf, BoundaryEnd, BoundaryPublic, Field, RowMajorMatrix, SymbolicVariable,
@@ -22,7 +22,7 @@ fn selector<F: Field>(word: &str) -> Result<BaseLeaf<F>, Fault> {
     }
 }
 
-// An entry without rows.
+// An entry without a row offset.
 fn value_entry(word: &str) -> Result<BaseEntry, Fault> {
     match word {
         "Periodic" => Ok(BaseEntry::Periodic),
@@ -31,7 +31,7 @@ fn value_entry(word: &str) -> Result<BaseEntry, Fault> {
     }
 }
 
-// An entry of a window.
+// An entry with a row offset.
 fn window_entry(word: &str, offset: &str) -> Result<BaseEntry, Fault> {
     match word {
         "Main" => Ok(BaseEntry::Main {
@@ -54,7 +54,7 @@ pub fn leaf_of<F: Field>(words: &[&str]) -> Result<BaseLeaf<F>, Fault> {
     }
 }
 
-// Adds a row so many times, and answers its width, which is to be the known one.
+// Adds a row `times` times, and returns its width, which must be the known one.
 fn add_row<F: Field>(
     row: &[F],
     times: usize,
@@ -71,7 +71,7 @@ fn add_row<F: Field>(
     Ok(row.len())
 }
 
-// The same of the row and the count of a part.
+// Adds a part `ROW` or `ROW*COUNT`, and returns the row's width.
 fn add_part<F: Field>(
     alloc: Global,
     part: &str,
@@ -86,8 +86,7 @@ fn add_part<F: Field>(
     add_row(&row, times, known, values)
 }
 
-/// The trace of a word: rows, which `/` separates, each a list of elements, with `*` and a count behind it where it
-/// stands so often.
+/// The trace of a word. `/` separates the rows, each a list of elements; `*COUNT` after a row repeats it.
 pub fn trace_of<F: Field>(alloc: Global, word: &str) -> Result<RowMajorMatrix<F>, Fault> {
     let mut values = Vec::new(alloc);
     let mut width = None;
@@ -97,7 +96,7 @@ pub fn trace_of<F: Field>(alloc: Global, word: &str) -> Result<RowMajorMatrix<F>
     Ok(RowMajorMatrix::new(values, width.unwrap_or(0))?)
 }
 
-/// A cap; `-`: there is none.
+/// A cap; `-` means none.
 pub fn cap_of(word: &str) -> Result<Option<usize>, Fault> {
     match word {
         "-" => Ok(None),
@@ -114,7 +113,7 @@ fn end_of(word: &str) -> Result<BoundaryEnd, Fault> {
     }
 }
 
-// The cell of a column.
+// The boundary value of a column.
 fn cell_at(column: &str, end: &str, public_value: &str) -> Result<BoundaryPublic, Fault> {
     let end = end_of(end)?;
     let column = count_of(column)?;
@@ -122,7 +121,7 @@ fn cell_at(column: &str, end: &str, public_value: &str) -> Result<BoundaryPublic
     Ok(BoundaryPublic::new(column, end, public_value))
 }
 
-/// The boundary cell `COLUMN,First,PUBLIC` or `COLUMN,Last,PUBLIC`.
+/// The boundary value `COLUMN,First,PUBLIC` or `COLUMN,Last,PUBLIC`.
 pub fn cell_of(word: &str) -> Result<BoundaryPublic, Fault> {
     match word.split_once(',') {
         Some((column, rest)) => match rest.split_once(',') {

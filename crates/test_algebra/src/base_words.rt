@@ -1,4 +1,4 @@
-//! Calls that base pools alone have.
+//! Calls of base pools only.
 
 use crate::bench::{PoolBench, TableLeaf};
 use crate::shown::Shown;
@@ -7,7 +7,7 @@ use air_symbolic::{BaseEntry, BaseLeaf, ExprId, SymbolicVariable};
 use test_lines::words::{Number, count_of, element_of};
 use test_lines::{Fault, Line, Names, Why};
 
-// An entry without rows.
+// An entry without a row offset.
 fn value_entry(word: &str) -> Result<BaseEntry, Fault> {
     match word {
         "Periodic" => Ok(BaseEntry::Periodic),
@@ -16,7 +16,7 @@ fn value_entry(word: &str) -> Result<BaseEntry, Fault> {
     }
 }
 
-// An entry of a window.
+// An entry with a row offset.
 fn window_entry(word: &str, offset: usize) -> Result<BaseEntry, Fault> {
     match word {
         "Main" => Ok(BaseEntry::Main { offset }),
@@ -45,7 +45,7 @@ pub fn base_variable<F: Field>(words: &[&str]) -> Result<SymbolicVariable<F>, Fa
     }
 }
 
-// A leaf of one word.
+// A leaf named by one word.
 fn selector<F: Field>(word: &str) -> Result<BaseLeaf<F>, Fault> {
     match word {
         "IsFirstRow" => Ok(BaseLeaf::IsFirstRow),

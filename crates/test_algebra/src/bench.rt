@@ -1,5 +1,5 @@
-//! A well-formed pool, whose expressions go by the names that lines give them: what a name stands for is tested at run
-//! time to be of the pool.
+//! A well-formed pool whose expressions are named by lines. Whether a name's value belongs to the pool is tested at run
+//! time.
 ghost use Rattle.std.specs.Prelude.{◌<◌, IsTrue, All, IfOk};
 ghost use Rattle.air_symbolic.specs.Pools.{size};
 
@@ -15,20 +15,20 @@ use std::marker::Model;
 use test_lines::words::{count_of, counts_of, number_of, value_of};
 use test_lines::{Bench, Fault, Line, Names, Why};
 
-/// A leaf with calls of its own. They stand apart from its text: a method that calls what needs its own trait has no
-/// proof.
+/// A leaf with its own calls. This is a trait apart from `Shown`, since a method can't be proved if it calls something
+/// that requires its own trait.
 pub trait TableLeaf: Shown {
-    /// The expression that a call makes which pools of these leaves alone have, or pools of all.
+    /// The expression made by a call of this kind of pool, or by a call of all pools.
     fn make_own<'a>(
         bench: &mut PoolBench<'a, Self>,
         call: &str,
         operands: &[&str],
     ) -> Result<ExprId<Self>, Fault>;
 
-    /// Whether a call is about what lies under the pool.
+    /// Whether a call is about the pool's base.
     fn is_under(call: &str) -> bool;
 
-    /// Answers such a call.
+    /// Answers a call about the pool's base.
     fn answer_under<'a>(
         bench: &mut PoolBench<'a, Self>,
         line: &Line<'a>,
@@ -37,7 +37,7 @@ pub trait TableLeaf: Shown {
         text: &mut String,
     ) -> Result<(), Fault>;
 
-    /// Adds the nodes of the names in what lies under the pool.
+    /// Adds the nodes of the names in the pool's base.
     fn show_under(bench: &PoolBench<'_, Self>, text: &mut String) -> Result<(), Fault>;
 }
 
@@ -45,7 +45,7 @@ pub trait TableLeaf: Shown {
 pub struct PoolBench<'a, A: SymLeaf> {
     pub pool: ExprPool<A>,
     pub names: Names<'a, ExprId<A>>,
-    /// Of the base pool that lies under an extension pool.
+    /// Names in the base pool, if this is an extension pool.
     pub base_names: Names<'a, ExprId<BaseLeaf<A::F>>>,
 }
 
@@ -59,7 +59,7 @@ impl<'a, A: SymLeaf> Model for PoolBench<'a, A> {
     ghost invariant = { λ b. IsPool A.reads b.pool };
 }
 
-// Adds degrees, and the turns that they took.
+// Adds degrees, and the number of turns they took.
 fn show_turns(degrees: &Degrees, text: &mut String) -> Result<(), Fault> {
     for degree in &degrees.values {
         write!(text, "{degree} ")?;
@@ -76,7 +76,7 @@ fn show_value(alloc: Global, value: &Value, text: &mut String) -> Result<(), Fau
     Ok(())
 }
 
-// What an operation is made of.
+// The operands of an operation.
 enum Operands {
     None,
     Number,
@@ -86,7 +86,7 @@ enum Operands {
     Any,
 }
 
-// What the operation of a call is made of. (It stands apart, since words are dear to tell apart where a pool is lent.)
+// The operands of a call's operation. (A function of its own: comparing words costs more proof beside a borrowed pool.)
 fn operands_of(call: &str) -> Option<Operands> {
     match call {
         "zero" => Some(Operands::None),
@@ -114,7 +114,7 @@ impl<'a, A: SymLeaf> PoolBench<'a, A> {
         }
     }
 
-    /// The expression of the one operand.
+    /// The expression of the only operand.
     pub fn only_operand(&self, operands: &[&str]) -> Result<ExprId<A>, Fault>
         ensures { IfOk result (λ x. x < size self.now) }
     {
@@ -124,7 +124,7 @@ impl<'a, A: SymLeaf> PoolBench<'a, A> {
         }
     }
 
-    // Whether all are of the pool.
+    // Whether all expressions are in the pool.
     fn contains_all(&self, xs: &[ExprId<A>]) -> bool
         ensures { IsTrue result → All (λ x. x < size self.now) xs.now }
     {
@@ -136,7 +136,7 @@ impl<'a, A: SymLeaf> PoolBench<'a, A> {
         true
     }
 
-    // Adds the expressions of some names.
+    // Adds the expressions of the names to `all`.
     fn add_all(&self, names: &[&str], all: &mut Vec<ExprId<A>>) -> Result<(), Fault> {
         for name in names {
             let x = self.at(*name)?;
@@ -145,7 +145,7 @@ impl<'a, A: SymLeaf> PoolBench<'a, A> {
         Ok(())
     }
 
-    // The expressions of some names.
+    // The expressions of the names.
     fn all_at(&self, names: &[&str]) -> Result<Vec<ExprId<A>>, Fault>
         ensures { IfOk result (λ all. All (λ x. x < size self.now) all.items) }
     {
@@ -158,7 +158,7 @@ impl<'a, A: SymLeaf> PoolBench<'a, A> {
         }
     }
 
-    // An operation on one expression. (A call at the end of an arm costs the least proof: each `?` has three.)
+    // An operation on one expression. (A call at the end of an arm costs the least proof: each `?` needs three proofs.)
     fn operate(&mut self, word: &str, x: ExprId<A>) -> Result<ExprId<A>, RingError>
         requires { x < size self.old }
     {
@@ -170,7 +170,7 @@ impl<'a, A: SymLeaf> PoolBench<'a, A> {
         }
     }
 
-    // An operation on two that folds.
+    // An operation on two expressions, with simplification.
     fn fold_two(&mut self, word: &str, x: ExprId<A>, y: ExprId<A>) -> Result<ExprId<A>, RingError>
         requires x_in { x < size self.old }
         requires y_in { y < size self.old }
@@ -193,7 +193,7 @@ impl<'a, A: SymLeaf> PoolBench<'a, A> {
         }
     }
 
-    // An operation on two that doesn't.
+    // An operation on two expressions, without simplification.
     fn insert_two(&mut self, word: &str, x: ExprId<A>, y: ExprId<A>) -> Result<ExprId<A>, RingError>
         requires x_in { x < size self.old }
         requires y_in { y < size self.old }
@@ -205,7 +205,7 @@ impl<'a, A: SymLeaf> PoolBench<'a, A> {
         }
     }
 
-    // An operation on two.
+    // An operation on two expressions.
     fn operate_two(
         &mut self,
         word: &str,
@@ -222,13 +222,13 @@ impl<'a, A: SymLeaf> PoolBench<'a, A> {
         }
     }
 
-    // What an operation on one makes.
+    // The result of an operation on one expression.
     fn made_of_one(&mut self, word: &str, operands: &[&str]) -> Result<ExprId<A>, Fault> {
         let x = self.only_operand(operands)?;
         Ok(self.operate(word, x)?)
     }
 
-    // What an operation on two makes.
+    // The result of an operation on two expressions.
     fn made_of_two(&mut self, word: &str, operands: &[&str]) -> Result<ExprId<A>, Fault> {
         let [x, y] = operands else {
             return Err(Fault::Unreadable(Why::NoSuchCall));
@@ -238,7 +238,7 @@ impl<'a, A: SymLeaf> PoolBench<'a, A> {
         Ok(self.operate_two(word, x, y)?)
     }
 
-    // The sum or the product of some.
+    // The sum or the product of expressions.
     fn join(&mut self, word: &str, all: &[ExprId<A>]) -> Result<ExprId<A>, Fault>
         requires { All (λ x. x < size self.old) all.now }
     {
@@ -248,7 +248,7 @@ impl<'a, A: SymLeaf> PoolBench<'a, A> {
         }
     }
 
-    // The same of some names.
+    // The sum or the product of the expressions of the names.
     fn join_named(&mut self, word: &str, names: &[&str]) -> Result<ExprId<A>, Fault> {
         let all = self.all_at(names)?;
         self.join(word, &all)
@@ -278,7 +278,7 @@ impl<'a, A: SymLeaf> PoolBench<'a, A> {
         Ok(self.pool.mul_2exp_u64(x, power)?)
     }
 
-    /// The expression that an operation makes.
+    /// The expression made by an operation.
     pub fn make_common(&mut self, call: &str, operands: &[&str]) -> Result<ExprId<A>, Fault> {
         match operands_of(call) {
             Some(Operands::None) => self.zero(operands),
@@ -291,14 +291,14 @@ impl<'a, A: SymLeaf> PoolBench<'a, A> {
         }
     }
 
-    // The degree of an expression over rows.
+    // The degree of an expression over a number of rows.
     fn degree_over(&self, x: ExprId<A>, rows: usize, periods: &[usize]) -> Result<usize, Fault>
         requires { x < size self.now }
     {
         Ok(self.pool.poly_degree(x, rows, periods)?)
     }
 
-    // The degree of an expression by rows.
+    // The degree of an expression over the number of rows in the words.
     fn poly_degree(&self, operands: &[&str]) -> Result<usize, Fault> {
         let [x, rows, periods] = operands else {
             return Err(Fault::Unreadable(Why::NoSuchCall));
@@ -309,7 +309,7 @@ impl<'a, A: SymLeaf> PoolBench<'a, A> {
         self.degree_over(x, rows, &periods)
     }
 
-    // The degree of an expression by a weight of the transition selector.
+    // The degree of an expression for a weight of the transition selector.
     fn weighted_degree(&self, operands: &[&str]) -> Result<usize, Fault> {
         let [x, weight] = operands else {
             return Err(Fault::Unreadable(Why::NoSuchCall));
@@ -328,7 +328,7 @@ impl<'a, A: SymLeaf> PoolBench<'a, A> {
         }
     }
 
-    // The number that a call answers.
+    // The number that a call returns.
     fn count(&self, call: &str, operands: &[&str]) -> Result<usize, Fault> {
         match call {
             "len" if operands.is_empty() => Ok(self.pool.len()),
@@ -339,7 +339,7 @@ impl<'a, A: SymLeaf> PoolBench<'a, A> {
         }
     }
 
-    // Adds the degrees of some expressions by a weight, and the turns that they take.
+    // Adds the degrees of expressions for a weight, and the turns they took.
     fn show_degrees_of(
         &self,
         weight: LeafWeight<'_>,
@@ -352,7 +352,7 @@ impl<'a, A: SymLeaf> PoolBench<'a, A> {
         show_turns(&degrees, text)
     }
 
-    // The same of some names.
+    // Adds the degrees of the expressions of the names for a weight, and the turns they took.
     fn show_degrees(
         &self,
         weight: LeafWeight<'_>,
@@ -363,7 +363,7 @@ impl<'a, A: SymLeaf> PoolBench<'a, A> {
         self.show_degrees_of(weight, &roots, text)
     }
 
-    // The same by a weight of the transition selector.
+    // Adds the degrees for a weight of the transition selector.
     fn weigh_transition(&self, words: &[&str], text: &mut String) -> Result<(), Fault> {
         let [weight, names @ ..] = words else {
             return Err(Fault::Unreadable(Why::NoSuchWord));
@@ -372,7 +372,7 @@ impl<'a, A: SymLeaf> PoolBench<'a, A> {
         self.show_degrees(LeafWeight::Transition(weight), names, text)
     }
 
-    // The same by rows and the lengths of periodic columns.
+    // Adds the degrees for a number of rows and the lengths of the periodic columns.
     fn weigh_trace(&self, words: &[&str], text: &mut String) -> Result<(), Fault> {
         let [rows, periods, names @ ..] = words else {
             return Err(Fault::Unreadable(Why::NoSuchWord));
@@ -386,7 +386,7 @@ impl<'a, A: SymLeaf> PoolBench<'a, A> {
         self.show_degrees(weight, names, text)
     }
 
-    // Adds the degrees by the weight that the words say, and the turns.
+    // Adds the degrees for the weight given by the words, and the turns they took.
     fn weigh(&self, words: &[&str], text: &mut String) -> Result<(), Fault> {
         let [kind, rest @ ..] = words else {
             return Err(Fault::Unreadable(Why::NoSuchWord));
@@ -406,7 +406,7 @@ impl<'a, A: Shown> PoolBench<'a, A> {
         show_constant::<A>(self.pool.as_const(x), text)
     }
 
-    /// Adds what an expression is that a line made, and gives it the line's name.
+    /// Adds the text of an expression, and gives it the line's name.
     pub fn keep(&mut self, line: &Line<'a>, x: ExprId<A>, text: &mut String) -> Result<(), Fault> {
         show_expression(&self.pool, &self.names, &self.base_names, x, text)?;
         match line.name {
@@ -442,14 +442,14 @@ impl<'a, A: Shown + WireLeaf> PoolBench<'a, A> {
         }
     }
 
-    // Adds the number that a call answers.
+    // Adds the number that a call returns.
     fn show_count(&self, call: &str, operands: &[&str], text: &mut String) -> Result<(), Fault> {
         let count = self.count(call, operands)?;
         write!(text, "{count}")?;
         Ok(())
     }
 
-    // Adds what a call sees that makes nothing.
+    // Adds the answer of a call that makes no expression.
     fn see(&self, call: &str, operands: &[&str], text: &mut String) -> Result<(), Fault> {
         match call {
             "as_const" => self.show_const(operands, text),
@@ -464,7 +464,7 @@ impl<'a, A: Shown + WireLeaf> PoolBench<'a, A> {
     }
 }
 
-// Whether a call makes nothing.
+// Whether a call makes no expression.
 fn makes_nothing(call: &str) -> bool {
     match call {
         "len"
@@ -492,7 +492,7 @@ impl<'a, A: TableLeaf + WireLeaf> PoolBench<'a, A> {
         }
     }
 
-    // Adds what a call makes, and gives it the line's name.
+    // Adds the text of the expression that a call makes, and gives it the line's name.
     fn make(
         &mut self,
         line: &Line<'a>,

@@ -1,4 +1,4 @@
-//! The calls of one field and one extension of it: the first word of each line tells whose call it is.
+//! The calls of one field and one extension of it. The first word of a line says whose call it is.
 
 use crate::fields::{extension, field};
 use crate::rings::{ext_field_ring, field_ring};
@@ -7,7 +7,7 @@ use std::alloc::Global;
 use std::marker::PhantomData;
 use test_lines::{Bench, Fault, Line, Why};
 
-/// What is made by one line is gone with it.
+/// The bench has no state: a line's values last for that line only.
 #[derive(Drop)]
 pub struct Calls<F: PrimeField64, EF: DomainExtension<F>> {
     alloc: Global,

@@ -1,4 +1,4 @@
-//! Calls that extension pools alone have, and those of the base pool under one.
+//! Calls of extension pools only, and calls of the base pool under one.
 ghost use Rattle.std.specs.Prelude.{◌<◌, IfOk};
 ghost use Rattle.air_symbolic.specs.Pools.{size};
 
@@ -10,7 +10,7 @@ use air_symbolic::{BaseLeaf, ExprId, ExtEntry, ExtLeaf, SymbolicVariableExt};
 use test_lines::words::{Number, count_of, extension_of, show_elements};
 use test_lines::{Fault, Line, Names, Why};
 
-// An entry without rows.
+// An entry without a row offset.
 fn value_entry(word: &str) -> Result<ExtEntry, Fault> {
     match word {
         "Challenge" => Ok(ExtEntry::Challenge),
@@ -55,7 +55,7 @@ fn show_entry(entry: ExtEntry, text: &mut String) -> Result<(), Fault> {
 }
 
 impl<'a, F: Number, EF: ExtensionField<F>> PoolBench<'a, ExtLeaf<F, EF>> {
-    // The expression of a name of the base pool.
+    // The expression of a name in the base pool.
     fn base_at(&self, name: &str) -> Result<ExprId<BaseLeaf<F>>, Fault>
         ensures { IfOk result (λ x. x < size self.now.base) }
     {
@@ -82,7 +82,7 @@ impl<'a, F: Number, EF: ExtensionField<F>> PoolBench<'a, ExtLeaf<F, EF>> {
         self.pool.base_mut().add(x, y)
     }
 
-    // Adds what an expression of the base pool is that a line made, and gives it the line's name.
+    // Adds the text of an expression in the base pool, and gives it the line's name.
     fn keep_base(
         &mut self,
         line: &Line<'a>,
@@ -116,7 +116,7 @@ impl<'a, F: Number, EF: ExtensionField<F>> PoolBench<'a, ExtLeaf<F, EF>> {
         Ok(self.push_base_sum(x, y)?)
     }
 
-    // The expression of the base pool that a call makes.
+    // The expression in the base pool that a call makes.
     fn made_base(&mut self, call: &str, operands: &[&str]) -> Result<ExprId<BaseLeaf<F>>, Fault> {
         match call {
             "leaf_expr" => self.base_leaf_expr(operands),
@@ -156,7 +156,7 @@ impl<'a, F: Number, EF: ExtensionField<F>> PoolBench<'a, ExtLeaf<F, EF>> {
         }
     }
 
-    // Adds what an expression is in the base pool, and gives it the line's name.
+    // Adds the text of the expression in the base pool, or `None`, and gives it the line's name.
     fn keep_found(
         &mut self,
         line: &Line<'a>,

@@ -6,7 +6,7 @@ use std::alloc::Global;
 use test_lines::words::{count_of, element_of, listed_extension, number_of, show_elements};
 use test_lines::{Fault, Why};
 
-// The element that a call without elements is.
+// The element named by a call without operands.
 fn field_constant<F: PrimeField64>(word: &str) -> Result<F, Fault> {
     match word {
         "ZERO" => Ok(F::ZERO),
@@ -17,7 +17,7 @@ fn field_constant<F: PrimeField64>(word: &str) -> Result<F, Fault> {
     }
 }
 
-// The element of a truth.
+// The element of `true` or `false`.
 fn field_of_bool<F: PrimeField64>(word: &str) -> Result<F, Fault> {
     match word {
         "true" => Ok(F::from_bool(true)),
@@ -26,7 +26,7 @@ fn field_of_bool<F: PrimeField64>(word: &str) -> Result<F, Fault> {
     }
 }
 
-// The element that a call on one word answers.
+// The element that a call on one word returns.
 fn field_of_one<F: PrimeField64>(word: &str, x: &str) -> Result<F, Fault> {
     match word {
         "from_bool" => field_of_bool(x),
@@ -52,7 +52,7 @@ fn field_joined<F: PrimeField64>(word: &str, x: &str, y: &str) -> Result<F, Faul
     }
 }
 
-// The element that a call on two words answers.
+// The element that a call on two words returns.
 fn field_of_two<F: PrimeField64>(word: &str, x: &str, y: &str) -> Result<F, Fault> {
     match word {
         "add" | "sub" | "mul" => field_joined(word, x, y),
@@ -61,7 +61,7 @@ fn field_of_two<F: PrimeField64>(word: &str, x: &str, y: &str) -> Result<F, Faul
     }
 }
 
-// The element that a call answers.
+// The element that a call returns.
 fn field_element<F: PrimeField64>(call: &[&str]) -> Result<F, Fault> {
     match call {
         [word] => field_constant(*word),
@@ -71,7 +71,7 @@ fn field_element<F: PrimeField64>(call: &[&str]) -> Result<F, Fault> {
     }
 }
 
-/// Adds the number that a call of a field answers.
+/// Adds the number that a call of a field returns.
 pub fn field<F: PrimeField64>(call: &[&str], text: &mut String) -> Result<(), Fault> {
     let number = match call {
         ["CHARACTERISTIC"] => F::CHARACTERISTIC,
@@ -87,7 +87,7 @@ pub fn field<F: PrimeField64>(call: &[&str], text: &mut String) -> Result<(), Fa
     Ok(())
 }
 
-// The element that a call on two elements of an extension answers.
+// The element that a call on two elements of an extension returns.
 fn extension_of_two<F: PrimeField64, EF: DomainExtension<F>>(
     alloc: Global,
     word: &str,
@@ -103,7 +103,7 @@ fn extension_of_two<F: PrimeField64, EF: DomainExtension<F>>(
     }
 }
 
-// The element that a call of an extension answers.
+// The element that a call of an extension returns.
 fn extension_element<F: PrimeField64, EF: DomainExtension<F>>(
     alloc: Global,
     call: &[&str],
@@ -120,7 +120,7 @@ fn extension_element<F: PrimeField64, EF: DomainExtension<F>>(
     }
 }
 
-// Adds the inverse of an element, if it has one.
+// Adds the inverse of an element, or `None`.
 fn show_inverse<F: PrimeField64, EF: DomainExtension<F>>(
     alloc: Global,
     x: &str,
@@ -135,7 +135,7 @@ fn show_inverse<F: PrimeField64, EF: DomainExtension<F>>(
     }
 }
 
-// Adds the powers of an element from 0 on.
+// Adds the powers of an element, from the power 0 on.
 fn show_powers<F: PrimeField64, EF: DomainExtension<F>>(
     alloc: Global,
     x: &str,
@@ -149,7 +149,7 @@ fn show_powers<F: PrimeField64, EF: DomainExtension<F>>(
     Ok(())
 }
 
-/// Adds the coefficients that a call of an extension answers.
+/// Adds the coefficients that a call of an extension returns.
 pub fn extension<F: PrimeField64, EF: DomainExtension<F>>(
     alloc: Global,
     call: &[&str],

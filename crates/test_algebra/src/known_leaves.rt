@@ -8,7 +8,7 @@ use std::alloc::Global;
 use test_lines::Fault;
 use test_lines::words::number_of;
 
-// The leaf of a constant that has a word.
+// The leaf of a constant with a name.
 fn named_leaf<A: SymLeaf>(word: &str, base: &mut A::Base) -> Result<A, RingError>
     requires { (A.reads base.old).sound }
     ensures sound { (A.reads base.new).sound }
@@ -32,7 +32,7 @@ fn leaf_of_number<A: SymLeaf>(word: &str, base: &mut A::Base) -> Result<A, Fault
     Ok(A::from_const(c, base)?)
 }
 
-// The leaf of a constant, which is a word or a number.
+// The leaf of a constant, given by its name or as a number.
 fn leaf_of<A: SymLeaf>(word: &str, base: &mut A::Base) -> Result<A, Fault>
     requires { (A.reads base.old).sound }
     ensures sound { (A.reads base.new).sound }
@@ -44,7 +44,7 @@ fn leaf_of<A: SymLeaf>(word: &str, base: &mut A::Base) -> Result<A, Fault>
     }
 }
 
-// Adds the constant that a leaf is, its degree with the weight 3 of the transition selector, and that over eight rows.
+// Adds the constant of a leaf, its degree when the transition selector weighs 3, and its degree over eight rows.
 fn show_leaf<A: Shown>(leaf: &A, base: &A::Base, text: &mut String) -> Result<(), Fault>
     requires sound { (A.reads base.now).sound }
     requires valid { (A.reads base.now).valid leaf.now }
@@ -56,7 +56,7 @@ fn show_leaf<A: Shown>(leaf: &A, base: &A::Base, text: &mut String) -> Result<()
     Ok(())
 }
 
-/// Adds the constant that such a leaf is, and its degrees.
+/// Adds the constant of the word's leaf, and its degrees.
 pub fn show_known<A: Shown>(alloc: Global, word: &str, text: &mut String) -> Result<(), Fault> {
     let mut base = A::new_base(alloc);
     let leaf: A = leaf_of(word, &mut base)?;

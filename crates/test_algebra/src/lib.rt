@@ -1,5 +1,5 @@
-//! Cases of fields and their rings, of pools and of lists of nodes, read from tables: each line makes one public call, and
-//! says what it answers.
+//! Tests of fields and their rings, of pools and of lists of nodes. Each line of a table makes one public call and
+//! gives the expected answer.
 #![tactic(auto)]
 
 ghost use Rattle.std.specs.Prelude.{◌≢◌, OnOk};
@@ -23,7 +23,7 @@ use air_json::WireLeaf;
 use air_symbolic::{BaseLeaf, ExtLeaf};
 use test_lines::{Fault, Report, Table, Tables, Why, check_lines};
 
-// Checks a table of pools of such leaves. (A call over given leaves alone takes much longer to prove.)
+// Checks a table of pools with these leaves. (Generic, since for concrete leaves each call takes much longer to prove.)
 fn check_pools<'a, A: TableLeaf + WireLeaf + 'a>(
     rt: &HostRuntime,
     table: &Table<'a>,
@@ -54,7 +54,7 @@ impl Tables for PoolTables {
     }
 }
 
-/// The tables of a field, of its extension and of the rings of both: the head names the field.
+/// The tables of a field, its extension and the rings of both. The head names the field.
 pub struct FieldTables;
 
 impl Tables for FieldTables {

@@ -8,7 +8,8 @@ use std::alloc::Global;
 use test_lines::words::{element_of, elements_of, listed_extension, number_of, show_elements};
 use test_lines::{Fault, Why};
 
-// What the field's ring makes of one element. (Few calls a function, at the ends of arms: a long one is dear to prove.)
+// The result of the field ring's operation on one element. (Functions with many calls are slow to prove, so each has
+// few, at the ends of arms.)
 fn of_one<F: Field>(word: &str, x: F) -> Result<F, RingError> {
     let mut ring = FieldRing::<F>::new();
     match word {
@@ -20,7 +21,7 @@ fn of_one<F: Field>(word: &str, x: F) -> Result<F, RingError> {
     }
 }
 
-// What the field's ring makes of two elements.
+// The result of the field ring's operation on two elements.
 fn of_two<F: Field>(word: &str, x: F, y: F) -> Result<F, RingError> {
     let mut ring = FieldRing::<F>::new();
     match word {
@@ -89,7 +90,7 @@ fn join_all<F: Field>(alloc: Global, word: &str, all: &[&str]) -> Result<F, Faul
     Ok(of_many(word, &all)?)
 }
 
-// The element that a call of the field's ring answers.
+// The element that a call of the field's ring returns.
 fn make_element<F: Field>(alloc: Global, call: &[&str]) -> Result<F, Fault> {
     let [word, given @ ..] = call else {
         return Err(Fault::Unreadable(Why::NoSuchCall));
@@ -100,7 +101,7 @@ fn make_element<F: Field>(alloc: Global, call: &[&str]) -> Result<F, Fault> {
     }
 }
 
-/// Adds the number that a call of the field's ring answers.
+/// Adds the number that a call of the field's ring returns.
 pub fn field_ring<F: PrimeField64>(
     alloc: Global,
     call: &[&str],
@@ -111,7 +112,7 @@ pub fn field_ring<F: PrimeField64>(
     Ok(())
 }
 
-// Elements, a word each.
+// Elements, one for each word.
 fn all_of<F: Field, EF: ExtensionField<F>>(
     alloc: Global,
     words: &[&str],
@@ -123,7 +124,7 @@ fn all_of<F: Field, EF: ExtensionField<F>>(
     Ok(all)
 }
 
-// What the extension's ring makes of two elements.
+// The result of the extension ring's operation on two elements.
 fn over_two<F: Field, EF: ExtensionField<F>>(word: &str, x: EF, y: EF) -> Result<EF, RingError> {
     let mut ring = ExtFieldRing::<F, EF>::new();
     match word {
@@ -133,7 +134,7 @@ fn over_two<F: Field, EF: ExtensionField<F>>(word: &str, x: EF, y: EF) -> Result
     }
 }
 
-// What the extension's ring makes of one element.
+// The result of the extension ring's operation on one element.
 fn over_one<F: Field, EF: ExtensionField<F>>(word: &str, x: EF) -> Result<EF, RingError> {
     let mut ring = ExtFieldRing::<F, EF>::new();
     match word {
@@ -143,7 +144,7 @@ fn over_one<F: Field, EF: ExtensionField<F>>(word: &str, x: EF) -> Result<EF, Ri
     }
 }
 
-// What it makes of one element of the field.
+// The result of the extension ring's operation on one element of the field.
 fn over_base<F: Field, EF: ExtensionField<F>>(word: &str, x: F) -> Result<EF, RingError> {
     let mut ring = ExtFieldRing::<F, EF>::new();
     match word {
@@ -231,7 +232,7 @@ fn made_over_few<F: Field, EF: ExtensionField<F>>(
     }
 }
 
-// The element that a call of the extension's ring answers.
+// The element that a call of the extension's ring returns.
 fn made_over<F: Field, EF: ExtensionField<F>>(alloc: Global, call: &[&str]) -> Result<EF, Fault> {
     let [word, given @ ..] = call else {
         return Err(Fault::Unreadable(Why::NoSuchCall));
@@ -242,7 +243,7 @@ fn made_over<F: Field, EF: ExtensionField<F>>(alloc: Global, call: &[&str]) -> R
     }
 }
 
-/// Adds the coefficients that a call of the extension's ring answers.
+/// Adds the coefficients that a call of the extension's ring returns.
 pub fn ext_field_ring<F: PrimeField64, EF: ExtensionField<F>>(
     alloc: Global,
     call: &[&str],

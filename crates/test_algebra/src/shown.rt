@@ -1,4 +1,4 @@
-//! Expressions as texts: an expression's text is its first name, or else its node.
+//! Expressions as texts: the first name of the expression, or its node if it has no name.
 ghost use Rattle.std.specs.Prelude.{◌<◌};
 ghost use Rattle.air_symbolic.specs.Pools.{FitsBase};
 
@@ -10,7 +10,7 @@ pub trait Shown: SymLeaf {
     /// The number of a constant.
     fn number(c: Self::F) -> u64;
 
-    /// Adds the leaf.
+    /// Adds the text of the leaf.
     fn show(
         &self,
         base: &Names<'_, ExprId<BaseLeaf<Self::F>>>,
@@ -18,7 +18,7 @@ pub trait Shown: SymLeaf {
     ) -> Result<(), Fault>;
 }
 
-/// Adds the constant that there is for folding, or `None`.
+/// Adds the constant found for folding, or `None`.
 pub fn show_constant<A: Shown>(found: Option<A::F>, text: &mut String) -> Result<(), Fault> {
     match found {
         Some(c) => {
@@ -40,7 +40,7 @@ fn name_of<'a, A: SymLeaf>(names: &Names<'a, ExprId<A>>, x: ExprId<A>) -> Option
     None
 }
 
-/// Adds the first name of an expression, or else its number.
+/// Adds the first name of an expression, or its number if it has no name.
 pub fn show_operand<A: SymLeaf>(
     names: &Names<'_, ExprId<A>>,
     x: ExprId<A>,
@@ -56,7 +56,7 @@ pub fn show_operand<A: SymLeaf>(
     Ok(())
 }
 
-// Adds one operand or two.
+// Adds one or two operands.
 fn show_operands<A: SymLeaf>(
     names: &Names<'_, ExprId<A>>,
     x: ExprId<A>,
@@ -73,7 +73,7 @@ fn show_operands<A: SymLeaf>(
     }
 }
 
-// Adds an operation on one expression or two.
+// Adds an operation on one or two expressions.
 fn show_operation<A: SymLeaf>(
     names: &Names<'_, ExprId<A>>,
     word: &str,
@@ -88,7 +88,7 @@ fn show_operation<A: SymLeaf>(
     Ok(())
 }
 
-// Adds a node, its operands by their names, or else by their numbers.
+// Adds a node, with its operands by their names, or by their numbers if they have none.
 fn show_node<A: Shown>(
     names: &Names<'_, ExprId<A>>,
     base: &Names<'_, ExprId<BaseLeaf<A::F>>>,
@@ -121,7 +121,7 @@ fn show_node<A: Shown>(
     }
 }
 
-/// Adds the first name of an expression, or else its node.
+/// Adds the first name of an expression, or its node if it has no name.
 pub fn show_expression<A: Shown>(
     pool: &ExprPool<A>,
     names: &Names<'_, ExprId<A>>,

@@ -9,7 +9,7 @@ use std::alloc::Global;
 use test_lines::words::{count_of, counts_of, show_spelt};
 use test_lines::{Fault, Why};
 
-// Adds what a word spells as this type.
+// Adds the value of this type that a word spells.
 fn show_spelling(alloc: Global, kind: &str, word: &str, text: &mut String) -> Result<(), Fault> {
     match kind {
         "BaseEntry" => show_spelt::<BaseEntry>(alloc, word, text),
@@ -31,7 +31,7 @@ fn answer_spelling(alloc: Global, operands: &[&str], text: &mut String) -> Resul
     }
 }
 
-// Adds the degree that nodes state of a base variable, and that over some rows.
+// Adds the degree of a base variable that its node states, and its degree over the rows.
 fn show_base_degrees(alloc: Global, operands: &[&str], text: &mut String) -> Result<(), Fault> {
     let [rows, periods, words @ ..] = operands else {
         return Err(Fault::Unreadable(Why::NoSuchCall));
@@ -45,7 +45,7 @@ fn show_base_degrees(alloc: Global, operands: &[&str], text: &mut String) -> Res
     Ok(())
 }
 
-// The same of an extension variable.
+// Adds the degree of an extension variable that its node states, and its degree over the rows.
 fn show_ext_degrees(operands: &[&str], text: &mut String) -> Result<(), Fault> {
     let [rows, words @ ..] = operands else {
         return Err(Fault::Unreadable(Why::NoSuchCall));
@@ -58,7 +58,7 @@ fn show_ext_degrees(operands: &[&str], text: &mut String) -> Result<(), Fault> {
     Ok(())
 }
 
-/// Adds what a call answers that needs no pool.
+/// Adds the answer of a call that needs no pool.
 pub fn answer_alone(
     alloc: Global,
     call: &str,

@@ -1,4 +1,4 @@
-//! What an AIR says of itself.
+//! What an AIR says about itself.
 ghost use Rattle.std.specs.Prelude.{[]};
 
 use crate::cells::cells_of;
@@ -8,7 +8,7 @@ use std::alloc::Global;
 use test_lines::words::{Number, count_of, listed_elements, show_elements};
 use test_lines::{Fault, Why};
 
-/// No constraints; a preprocessed table, periodic columns and cells.
+/// An AIR without constraints, with a preprocessed trace, periodic columns and boundary values.
 #[derive(Drop)]
 struct Said<F> {
     table: Option<RowMajorMatrix<F>>,
@@ -47,7 +47,7 @@ impl<F: Field> BaseAir<F> for Said<F> {
     }
 }
 
-// These periodic columns, and nothing else.
+// The AIR with these periodic columns only.
 fn with_periodic<F: Field>(alloc: Global, words: &[&str]) -> Result<Said<F>, Fault> {
     let mut periodic = Vec::new(alloc);
     for word in words {
@@ -60,7 +60,7 @@ fn with_periodic<F: Field>(alloc: Global, words: &[&str]) -> Result<Said<F>, Fau
     })
 }
 
-// A table, if it has columns.
+// The preprocessed trace, or `None` for width 0.
 fn table_of<F: Field>(
     alloc: Global,
     width: &str,
@@ -74,7 +74,7 @@ fn table_of<F: Field>(
     Ok(Some(RowMajorMatrix::new(values, width)?))
 }
 
-// A table, if it has columns, and cells.
+// The AIR with this preprocessed trace, or none for width 0, and these boundary values.
 fn with_table<F: Field>(
     alloc: Global,
     width: &str,
@@ -135,7 +135,7 @@ fn show_cells(cells: &[BoundaryPublic], text: &mut String) -> Result<(), Fault> 
     Ok(())
 }
 
-/// Adds what an AIR says that leaves all answers as they are.
+/// Adds the answer of a method of an AIR.
 pub fn show_said<F: Field, A: BaseAir<F>>(
     alloc: Global,
     air: &A,
@@ -212,7 +212,7 @@ fn of_table<F: Number>(
     show_said(alloc, &air, word, text)
 }
 
-/// Adds what an AIR says, of periodic columns or of a table.
+/// Adds the answer of a call about periodic columns, or about an AIR with a preprocessed trace.
 pub fn air<F: Number>(alloc: Global, call: &[&str], text: &mut String) -> Result<(), Fault> {
     let [word, given @ ..] = call else {
         return Err(Fault::Unreadable(Why::NoSuchCall));

@@ -1,4 +1,4 @@
-//! Calls of bits and limbs.
+//! Calls on bits and limbs.
 
 use air_builder::AirError;
 use air_field::{BabyBear, FieldRing};
@@ -30,7 +30,7 @@ fn of_two<F: Number>(given: &[&str]) -> Result<F, Fault> {
     Ok(checked_andn(x, element_of(*y)?))
 }
 
-// The element that a call makes of bits.
+// The element that a call makes from bits.
 fn make_element<F: Number>(alloc: Global, word: &str, given: &[&str]) -> Result<F, Fault> {
     match word {
         "pack_bits_le" | "checked_xor" => of_bits(alloc, word, given),
@@ -72,7 +72,7 @@ fn show_limbs(n: &str, text: &mut String) -> Result<(), Fault> {
     show_numbers(&u64_to_16_bit_limbs(n), text)
 }
 
-/// Adds what a call answers.
+/// Adds the answer of a call.
 pub fn utils(alloc: Global, call: &[&str], text: &mut String) -> Result<(), Fault> {
     match call {
         ["u32_to_bits_le", n] => show_bits_of_32(*n, text),

@@ -1,4 +1,4 @@
-//! Calls of boundary cells: one is written `COLUMN:END:PUBLIC`.
+//! Calls on boundary values, written `COLUMN:END:PUBLIC`.
 
 use air_core::boundary::validate;
 use air_core::{BoundaryEnd, BoundaryPublic};
@@ -26,7 +26,7 @@ fn cell_of(word: &str) -> Result<BoundaryPublic, Fault> {
     Ok(BoundaryPublic::new(column, end, count_of(index)?))
 }
 
-/// The cells of some words.
+/// The boundary values of the words.
 pub fn cells_of(alloc: Global, words: &[&str]) -> Result<Vec<BoundaryPublic>, Fault> {
     let mut all = Vec::new(alloc);
     for word in words {
@@ -57,7 +57,7 @@ fn show_end(given: &[&str], text: &mut String) -> Result<(), Fault> {
     Ok(())
 }
 
-// Adds what is wrong with cells. A fault is followed by its text.
+// Adds the result of validating boundary values: `Ok`, or the error and its text.
 fn show_validated(
     cells: &[BoundaryPublic],
     width: usize,
@@ -81,7 +81,7 @@ fn show_validity(alloc: Global, given: &[&str], text: &mut String) -> Result<(),
     show_validated(&cells, width, count, text)
 }
 
-/// Adds what a call of cells answers.
+/// Adds the answer of a call on boundary values.
 pub fn boundary(alloc: Global, call: &[&str], text: &mut String) -> Result<(), Fault> {
     let [word, given @ ..] = call else {
         return Err(Fault::Unreadable(Why::NoSuchCall));

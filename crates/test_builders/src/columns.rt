@@ -1,5 +1,5 @@
-//! Calls of single and of virtual columns. A column is written `main:2` or `preprocessed:0`, with a weight behind it
-//! `main:2:16`, and as a column of a known trace `2:16`; a row is its elements, which commas separate.
+//! Calls on single and virtual columns. A column is written `main:2` or `preprocessed:0`, with a weight `main:2:16`, or
+//! in a known trace `2:16`. A row is its elements, separated by commas.
 
 use air_field::{Field, FieldRing};
 use air_gadgets::{PairCol, VirtualPairCol};
@@ -26,7 +26,7 @@ fn show_in_range(given: &[&str], text: &mut String) -> Result<(), Fault> {
     Ok(())
 }
 
-// Adds the element of a column of these rows.
+// Adds the element of a column in these rows.
 fn show_found<F: Number>(
     column: PairCol,
     preprocessed: &[F],
@@ -51,7 +51,7 @@ fn show_element<F: Number>(alloc: Global, given: &[&str], text: &mut String) -> 
     show_found(column, &preprocessed, &main, text)
 }
 
-/// Adds what a call of a single column answers.
+/// Adds the answer of a call on a single column.
 pub fn pair_col<F: Number>(alloc: Global, call: &[&str], text: &mut String) -> Result<(), Fault> {
     let [word, given @ ..] = call else {
         return Err(Fault::Unreadable(Why::NoSuchCall));
@@ -63,7 +63,7 @@ pub fn pair_col<F: Number>(alloc: Global, call: &[&str], text: &mut String) -> R
     }
 }
 
-// A column of either trace with its weight.
+// A column of either trace and its weight.
 fn weighted_column<F: Field>(word: &str) -> Result<(PairCol, F), Fault> {
     let Some((column, weight)) = word.rsplit_once(':') else {
         return Err(Fault::Unreadable(Why::NoSuchWord));
@@ -80,7 +80,7 @@ fn weighted_columns<F: Field>(alloc: Global, words: &[&str]) -> Result<Vec<(Pair
     Ok(all)
 }
 
-// A column of one trace with its weight.
+// A column of one trace and its weight.
 fn weighted_here<F: Field>(word: &str) -> Result<(usize, F), Fault> {
     let Some((column, weight)) = word.split_once(':') else {
         return Err(Fault::Unreadable(Why::NoSuchWord));
@@ -97,7 +97,7 @@ fn all_weighted_here<F: Field>(alloc: Global, words: &[&str]) -> Result<Vec<(usi
     Ok(all)
 }
 
-// The virtual column of columns of one trace with weights, and of a constant.
+// The virtual column of a constant and of weighted columns of one trace.
 fn newly_here<F: Field>(
     alloc: Global,
     word: &str,
@@ -111,7 +111,7 @@ fn newly_here<F: Field>(
     }
 }
 
-// The virtual column of columns with weights, and of a constant.
+// The virtual column of a constant and of weighted columns.
 fn new_column<F: Field>(
     alloc: Global,
     word: &str,
@@ -152,7 +152,7 @@ fn single_here<F: Field>(alloc: Global, word: &str, x: &str) -> Result<VirtualPa
     }
 }
 
-// The virtual column of the sum of some of them.
+// The virtual column of the sum of columns of the trace that the word names.
 fn sum_here<F: Field>(alloc: Global, word: &str, all: &str) -> Result<VirtualPairCol<F>, Fault> {
     let all = counts_of(alloc, all)?;
     match word {
@@ -161,7 +161,7 @@ fn sum_here<F: Field>(alloc: Global, word: &str, all: &str) -> Result<VirtualPai
     }
 }
 
-// The virtual column of one word: a constant, a column, or the sum of some.
+// The virtual column of a call with one operand: a constant, a column, or the sum of columns.
 fn of_word<F: Field>(alloc: Global, word: &str, x: &str) -> Result<VirtualPairCol<F>, Fault> {
     match word {
         "constant" => Ok(VirtualPairCol::constant(alloc, element_of(x)?)),
@@ -172,7 +172,7 @@ fn of_word<F: Field>(alloc: Global, word: &str, x: &str) -> Result<VirtualPairCo
     }
 }
 
-// The virtual column of no word.
+// The virtual column of a call without operands.
 fn of_nothing<F: Field>(alloc: Global, word: &str) -> Result<VirtualPairCol<F>, Fault> {
     match word {
         "one" => Ok(VirtualPairCol::one(alloc)),
@@ -216,7 +216,7 @@ fn show_value<F: Number>(
     Ok(())
 }
 
-// Adds the virtual column at these rows.
+// Adds the value of the virtual column in these rows.
 fn show_applied<F: Number>(
     alloc: Global,
     column: &VirtualPairCol<F>,
@@ -229,7 +229,7 @@ fn show_applied<F: Number>(
     show_value(column, &preprocessed, &main, text)
 }
 
-// Adds whether it fits these widths.
+// Adds whether the virtual column fits these widths.
 fn show_fits<F: Number>(
     column: &VirtualPairCol<F>,
     preprocessed: &str,
@@ -257,7 +257,7 @@ fn show_call<F: Number>(
     }
 }
 
-/// Adds what a call of the virtual column answers that the other words make.
+/// Adds the answer of a call on a virtual column, which the words after the call make.
 pub fn virtual_pair_col<F: Number>(
     alloc: Global,
     call: &[&str],

@@ -1,4 +1,4 @@
-//! What an AIR hints of itself, where it says nothing and where it replaces one hint.
+//! The hints of an AIR: the default hints, and an AIR that overrides one.
 ghost use Rattle.std.specs.Prelude.{⊤, None, []};
 ghost use Rattle.air_builder.specs.Declaration.{plain_declaration};
 
@@ -9,7 +9,7 @@ use example_fibonacci::Fibonacci;
 use std::alloc::Global;
 use test_lines::{Fault, Why};
 
-/// An AIR of three columns without constraints, of which only column 1 is said to be read at the next row.
+/// An AIR of three columns without constraints. Its only hint: of the next row only column 1 is read.
 struct OneHint;
 
 impl<F: Field> BaseAir<F> for OneHint {
@@ -42,7 +42,7 @@ impl<F: Field> BaseAir<F> for OneHint {
     }
 }
 
-/// Adds what an AIR hints: Fibonacci has no hints of its own, the other one.
+/// Adds a hint. `fibonacci` has the default hints; `one_hint` overrides one.
 pub fn hint<F: Field>(alloc: Global, call: &[&str], text: &mut String) -> Result<(), Fault> {
     let [air, call] = call else {
         return Err(Fault::Unreadable(Why::NoSuchCall));

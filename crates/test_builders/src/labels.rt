@@ -1,4 +1,4 @@
-//! Names whose texts stand in a table.
+//! Names whose texts are in a table.
 
 use air_core::{Element, Name, NamespaceExt};
 use std::alloc::Global;

@@ -1,5 +1,5 @@
-//! Cases of fields, rings, matrices, windows, cells, names, columns, bits, word gadgets, assertions and filters, read
-//! from tables: each line makes public calls, and says what they answer.
+//! Tests of matrices, windows, boundary values, names, columns, bits, word gadgets, assertions and filters. Each line
+//! of a table makes public calls and gives the expected answer.
 #![tactic(auto)]
 
 mod airs;

@@ -1,11 +1,11 @@
-//! Calls of matrices and their views. The elements are counts, which commas separate.
+//! Calls on matrices and their views. The elements are counts, separated by commas.
 
 use air_field::{RowMajorMatrix, RowMajorMatrixView, ViewPair};
 use std::alloc::Global;
 use test_lines::words::{count_of, counts_of};
 use test_lines::{Fault, Why};
 
-/// The matrix of some values.
+/// The matrix of the values.
 pub fn matrix_of(alloc: Global, width: &str, values: &str) -> Result<RowMajorMatrix<usize>, Fault> {
     Ok(RowMajorMatrix::new(counts_of(alloc, values)?, count_of(width)?)?)
 }
@@ -52,7 +52,7 @@ fn row_slice(alloc: Global, given: &[&str], text: &mut String) -> Result<(), Fau
     show_row(&matrix_of(alloc, *width, *values)?, *row, text)
 }
 
-/// Adds what a call of a matrix answers.
+/// Adds the answer of a call on a matrix.
 pub fn matrix(alloc: Global, call: &[&str], text: &mut String) -> Result<(), Fault> {
     let [word, given @ ..] = call else {
         return Err(Fault::Unreadable(Why::NoSuchCall));

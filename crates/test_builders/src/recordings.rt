@@ -1,4 +1,4 @@
-//! Assertions that are recorded: each line has a builder of its own.
+//! Recorded assertions: each line has its own builder.
 
 use crate::trees::{show_tree, show_value};
 use air_audit::finish_recording;
@@ -11,14 +11,14 @@ use test_airs::assert_all;
 use test_lines::words::Number;
 use test_lines::{Bench, Fault, Line};
 
-/// Recordings over these fields.
+/// The bench of recordings over these fields.
 #[derive(Drop)]
 pub struct Recordings<F, EF> {
     alloc: Global,
     fields: PhantomData<(F, EF)>,
 }
 
-// What is recorded of the assertions.
+// The recording of the assertions.
 fn record_words<F: Field, EF: ExtensionField<F>>(
     alloc: Global,
     words: &[&str],
@@ -31,7 +31,7 @@ fn record_words<F: Field, EF: ExtensionField<F>>(
     Ok(finish_recording(builder))
 }
 
-// Adds the constraints over the extension, and then the base ones.
+// Adds the constraints over the extension, then the base constraints.
 fn show_recorded<F: Number, EF: ExtensionField<F>>(
     recorded: &Recorded<F, EF>,
     text: &mut String,
@@ -47,7 +47,7 @@ fn show_recorded<F: Number, EF: ExtensionField<F>>(
     Ok(())
 }
 
-// Adds what is recorded of the assertions.
+// Adds the recording of the assertions.
 fn answer_recorded<F: Number, EF: ExtensionField<F>>(
     alloc: Global,
     words: &[&str],
@@ -56,7 +56,7 @@ fn answer_recorded<F: Number, EF: ExtensionField<F>>(
     show_recorded(&record_words::<F, EF>(alloc, words)?, text)
 }
 
-// How many rows the window of the symbolic builder has.
+// The number of rows in the symbolic builder's window.
 fn window_rows<F: Field, EF: ExtensionField<F>>() -> usize {
     SymbolicAirBuilder::<F, EF>::WINDOW
 }

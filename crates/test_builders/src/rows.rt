@@ -1,4 +1,4 @@
-//! Assertions that are evaluated at one row without columns: each line has a builder of its own.
+//! Assertions evaluated at a row without columns: each line has its own builder.
 
 use air_builder::AirBuilder;
 use air_field::{ExtensionField, Field, RowMajorMatrixView, ViewPair};
@@ -9,8 +9,8 @@ use test_airs::assert_all;
 use test_lines::words::element_of;
 use test_lines::{Bench, Fault, Line};
 
-/// Rows over these fields. (The fields are named where the tables are checked and nowhere else: at given ones each call
-/// is dear to prove.)
+/// The bench of rows over these fields. (Concrete fields are named only where the tables are checked, since at concrete
+/// fields each call is slow to prove.)
 #[derive(Drop)]
 pub struct Rows<F, EF> {
     alloc: Global,
@@ -19,8 +19,7 @@ pub struct Rows<F, EF> {
 
 type RowBuilder<'a, F, EF> = DebugConstraintBuilder<'a, F, EF>;
 
-// A builder at the first row, with no columns of any kind, and with these selectors of the first, the last and the
-// other rows.
+// A builder at row 0 without columns of any kind, and with these first-row, last-row and transition selectors.
 fn row_builder<'a, F: Field, EF: ExtensionField<F>>(
     alloc: Global,
     none: &'a [F],
@@ -63,7 +62,7 @@ fn show_failures<F: Field, EF: ExtensionField<F>>(
     Ok(())
 }
 
-// How many rows the window of a builder at a row has.
+// The number of rows in a row builder's window.
 fn window_rows<F: Field + 'static, EF: ExtensionField<F> + 'static>() -> usize {
     DebugConstraintBuilder::<'static, F, EF>::WINDOW
 }
@@ -82,7 +81,7 @@ fn selectors_of<F: Field>(first: &str, last: &str, transition: &str) -> Result<(
     Ok((first, last, element_of(transition)?))
 }
 
-// Adds what fails of the assertions at a row with these selectors.
+// Adds the failures of the assertions at a row with these selectors.
 fn answer_at_row<F: Field + 'static, EF: ExtensionField<F> + 'static>(
     alloc: Global,
     selectors: (F, F, F),

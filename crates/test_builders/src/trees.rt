@@ -23,7 +23,7 @@ fn show_leaf<F: Number>(leaf: BaseLeaf<F>, text: &mut String) -> Result<(), Faul
     Ok(())
 }
 
-/// Adds the tree of a base expression to this depth: a constant is its number, operands stand in brackets.
+/// Adds the tree of a base expression, to this depth. A constant is its number, and operands are in brackets.
 pub fn show_tree<F: Number>(
     pool: &ExprPool<BaseLeaf<F>>,
     id: ExprId<BaseLeaf<F>>,
@@ -60,7 +60,7 @@ fn apply_operation<F: Field, EF: ExtensionField<F>>(operation: char, x: EF, y: E
     }
 }
 
-// The value of an expression over constants alone, to this depth.
+// The value of an expression over constants only, to this depth.
 fn value_of<F: Field, EF: ExtensionField<F>>(
     pool: &ExprPool<ExtLeaf<F, EF>>,
     id: ExprId<ExtLeaf<F, EF>>,
@@ -87,7 +87,7 @@ fn value_of<F: Field, EF: ExtensionField<F>>(
     Some(apply_operation::<F, EF>(operation, left, right))
 }
 
-/// Adds the value of an expression over constants alone.
+/// Adds the value of an expression over constants only.
 pub fn show_value<F: Number, EF: ExtensionField<F>>(
     pool: &ExprPool<ExtLeaf<F, EF>>,
     id: ExprId<ExtLeaf<F, EF>>,

@@ -1,4 +1,4 @@
-//! Calls that need no builder from one line to the next: the first word of each tells whose call it is.
+//! Calls that keep no builder from one line to the next. The first word of a line says whose call it is.
 
 use crate::airs::air;
 use crate::bits::utils;
@@ -14,7 +14,7 @@ use std::alloc::Global;
 use std::marker::PhantomData;
 use test_lines::{Bench, Fault, Line, Why};
 
-/// What is made by one line is gone with it.
+/// The bench has no state: a line's values last for that line only.
 #[derive(Drop)]
 pub struct Values<F> {
     alloc: Global,

@@ -1,4 +1,4 @@
-//! Calls of windows. The elements are counts, which commas separate.
+//! Calls on windows. The elements are counts, separated by commas.
 
 use air_core::{RowWindow, TwoRows, WindowAccess};
 use air_field::{RowMajorMatrix, RowMajorMatrixView};
@@ -6,7 +6,7 @@ use std::alloc::Global;
 use test_lines::words::{count_of, counts_of};
 use test_lines::{Fault, Why};
 
-// Adds both rows, and what stands in a column of each.
+// Adds both rows, and the element of a column in each.
 fn show_window<W: WindowAccess<usize>>(
     window: &W,
     column: &str,
@@ -22,7 +22,7 @@ fn show_window<W: WindowAccess<usize>>(
     Ok(())
 }
 
-// Adds the window that a matrix of one column is.
+// Adds the window given by a matrix of one column.
 fn show_column_window(
     alloc: Global,
     x: usize,
@@ -71,7 +71,7 @@ fn from_two_rows(alloc: Global, given: &[&str], text: &mut String) -> Result<(),
     show_rows(&current, &next, *column, text)
 }
 
-// Adds the window of rows that it owns.
+// Adds a window that owns its rows.
 fn show_owned(
     current: Vec<usize>,
     next: Vec<usize>,
@@ -111,7 +111,7 @@ fn of_matrix(alloc: Global, given: &[&str], text: &mut String) -> Result<(), Fau
     show_values(alloc, &counts_of(alloc, *values)?, *column, text)
 }
 
-/// Adds the window that a call makes, with what stands in a column.
+/// Adds the window that a call makes, and the element of a column in each row.
 pub fn window(alloc: Global, call: &[&str], text: &mut String) -> Result<(), Fault> {
     let [word, given @ ..] = call else {
         return Err(Fault::Unreadable(Why::NoSuchCall));

@@ -1,4 +1,5 @@
-//! Sums and xors of words: recorded over columns of the main trace, made an AIR, and checked on a trace of one row.
+//! Sums and xors of words: recorded over columns of the main trace, made into an AIR, and checked on a trace of one
+//! row.
 ghost use Rattle.std.specs.Prelude.{ℕ, ◌≤◌, All, IfOk, OnOk};
 
 use air_audit::{FlatAir, finish_recording, recorded_air};
@@ -17,7 +18,7 @@ use test_lines::{Fault, Why};
 
 type Column<F> = SymbolicVariable<F>;
 
-// So many columns of the current row from one on.
+// N columns of the current row, from `first` on.
 fn columns<F: Field, const N: usize>(first: usize) -> [Column<F>; N] {
     let mut columns = [SymbolicVariable::new(BaseEntry::Main { offset: 0 }, first); N];
     for (i, column) in columns.iter_mut().enumerate() {
@@ -27,7 +28,7 @@ fn columns<F: Field, const N: usize>(first: usize) -> [Column<F>; N] {
     columns
 }
 
-// The element of a variable. What was in the ring still is.
+// The element of a variable. Elements of the ring stay in it.
 fn made_of<AB: AirBuilder>(builder: &mut AB, v: AB::Var) -> Result<AB::Expr, AirError>
     requires { AB.ready builder.old }
     ensures ready { AB.ready builder.new }
@@ -39,7 +40,7 @@ fn made_of<AB: AirBuilder>(builder: &mut AB, v: AB::Var) -> Result<AB::Expr, Air
     Ok(element)
 }
 
-// Adds two words, of which the second is given by elements.
+// Adds two words; the second is given by elements.
 fn add_two<AB: AirBuilder>(
     builder: &mut AB,
     a: [AB::Var; 2],
@@ -53,7 +54,7 @@ fn add_two<AB: AirBuilder>(
     add2(builder, &a, &b, &c)
 }
 
-// Adds three words, of which the last two are given by elements.
+// Adds three words; the last two are given by elements.
 fn add_three<AB: AirBuilder>(
     builder: &mut AB,
     a: [AB::Var; 2],
@@ -69,7 +70,7 @@ fn add_three<AB: AirBuilder>(
     add3(builder, &a, &b, &c, &d)
 }
 
-// Asserts that word a is the xor of the bits b with the bits c, rotated.
+// Asserts that word a is the xor of the bits b and the rotated bits c.
 fn assert_xor<AB: AirBuilder>(
     builder: &mut AB,
     a: [AB::Var; 2],
@@ -84,7 +85,7 @@ fn assert_xor<AB: AirBuilder>(
     xor_32_shift(builder, &a, &b, &c, shift)
 }
 
-// A word's gadget.
+// A gadget on words.
 #[derive(Clone, Copy)]
 enum Gadget {
     SumOfTwo,
@@ -94,7 +95,7 @@ enum Gadget {
 
 type Recorder<F> = SymbolicAirBuilder<F, F>;
 
-// The elements of two columns from one on. What was in the ring still is.
+// The elements of two columns, from `first` on. Elements of the ring stay in it.
 fn two_made<F: Field>(
     builder: &mut Recorder<F>,
     first: usize,
@@ -116,7 +117,7 @@ fn two_made<F: Field>(
     Ok([low, high])
 }
 
-// Records that the word of columns 0 and 1 is the sum of the next two words.
+// Records that the word in columns 0 and 1 is the sum of the next two words.
 fn record_sum_of_two<F: Field>(builder: &mut Recorder<F>) -> Result<(), AirError>
     requires { ⟦<SymbolicAirBuilder<F, F> as AirBuilder>⟧.ready builder.old }
     ensures { OnOk result (⟦<SymbolicAirBuilder<F, F> as AirBuilder>⟧.ready
@@ -126,7 +127,7 @@ fn record_sum_of_two<F: Field>(builder: &mut Recorder<F>) -> Result<(), AirError
     add_two(builder, columns(0), columns(2), c)
 }
 
-// Records that the word of columns 0 and 1 is the sum of the next three words.
+// Records that the word in columns 0 and 1 is the sum of the next three words.
 fn record_sum_of_three<F: Field>(builder: &mut Recorder<F>) -> Result<(), AirError>
     requires { ⟦<SymbolicAirBuilder<F, F> as AirBuilder>⟧.ready builder.old }
     ensures { OnOk result (⟦<SymbolicAirBuilder<F, F> as AirBuilder>⟧.ready
@@ -153,8 +154,8 @@ fn record_gadget<F: Field>(builder: &mut Recorder<F>, gadget: Gadget) -> Result<
     }
 }
 
-// What is recorded of a gadget over the columns from 0 on: the limbs of a, then those of the other words, or their
-// bits.
+// The recording of a gadget over the columns from 0 on: first the limbs of a, then the limbs or the bits of the other
+// words.
 fn gadget_recording<F: Field>(
     alloc: Global,
     gadget: Gadget,
@@ -169,7 +170,7 @@ fn gadget_recording<F: Field>(
     Ok(finish_recording(builder))
 }
 
-// The AIR of what is recorded of a gadget.
+// The AIR of a gadget's recording.
 fn gadget_air<F: Field>(alloc: Global, gadget: Gadget, width: usize) -> Result<FlatAir<F>, Fault> {
     let recorded = gadget_recording::<F>(alloc, gadget, width)?;
     Ok(recorded_air(recorded, width, 0, Vec::new(alloc), Vec::new(alloc))?)
@@ -193,7 +194,7 @@ fn report_at_row<F: Field + 'static>(
     report_of(alloc, air, &main)
 }
 
-// What a check of a gadget reports at a row.
+// The report of checking a gadget on one row.
 fn check_gadget<F: Field + 'static>(
     alloc: Global,
     gadget: Gadget,
@@ -203,7 +204,7 @@ fn check_gadget<F: Field + 'static>(
     report_at_row(alloc, &air, row)
 }
 
-// Adds how many constraints a report counts a row, and which of them fail.
+// Adds the number of constraints a row, and the failures.
 fn show_report(report: &ConstraintReport, text: &mut String) -> Result<(), Fault> {
     let count = report.total_constraints_per_row;
     write!(text, "{count} constraints")?;
@@ -213,7 +214,7 @@ fn show_report(report: &ConstraintReport, text: &mut String) -> Result<(), Fault
     Ok(())
 }
 
-// Adds those of a gadget at a row.
+// Adds the number of constraints of a gadget, and its failures at a row.
 fn show_checked<F: Field + 'static>(
     alloc: Global,
     gadget: Gadget,
@@ -242,7 +243,7 @@ fn show_degrees_in<F: Field>(
     Ok(())
 }
 
-// Adds the degrees of what is recorded of a gadget.
+// Adds the degrees of a gadget's recorded constraints.
 fn show_degrees<F: Field>(
     alloc: Global,
     gadget: Gadget,
@@ -263,7 +264,7 @@ fn push_limbs<F: PrimeField64>(alloc: Global, word: &str, row: &mut Vec<F>) -> R
     Ok(())
 }
 
-// Sets the element that stands as `PLACE:NUMBER`.
+// Sets the bit given as `PLACE:NUMBER`.
 fn set_bit<F: PrimeField64>(part: &str, bits: &mut [F]) -> Result<(), Fault> {
     let Some((place, number)) = part.split_once(':') else {
         return Err(Fault::Unreadable(Why::NoSuchWord));
@@ -278,7 +279,7 @@ fn set_bit<F: PrimeField64>(part: &str, bits: &mut [F]) -> Result<(), Fault> {
     }
 }
 
-// Adds 32 elements, zero but for those that stand as `PLACE:NUMBER`, with commas between.
+// Adds 32 elements. Those given as `PLACE:NUMBER`, separated by commas, are set; the others are zero.
 fn push_bits<F: PrimeField64>(alloc: Global, word: &str, row: &mut Vec<F>) -> Result<(), Fault> {
     let mut bits = vec![in alloc; F::ZERO; 32]?;
     if word != "-" {
@@ -299,7 +300,7 @@ fn limbs_of<F: PrimeField64>(alloc: Global, words: &[&str]) -> Result<Vec<F>, Fa
     Ok(row)
 }
 
-// The limbs of a word, and the bits of two others.
+// The limbs of a word, then the bits of two other words.
 fn word_and_bits<F: PrimeField64>(
     alloc: Global,
     a: &str,
@@ -335,7 +336,7 @@ fn show_xor<F: PrimeField64 + 'static>(
     show_checked(alloc, Gadget::Xor(count_of(*shift)?), row, text)
 }
 
-// A gadget, and how many columns it takes.
+// A gadget, and the number of its columns.
 fn gadget_of(call: &[&str]) -> Result<(Gadget, usize), Fault> {
     match call {
         ["add2"] => Ok((Gadget::SumOfTwo, 6)),
@@ -350,7 +351,7 @@ fn show_degrees_of<F: Field>(alloc: Global, call: &[&str], text: &mut String) ->
     show_degrees::<F>(alloc, gadget, width, text)
 }
 
-// Adds what a gadget makes of the row of its words, which are numbers of the field.
+// Adds the answer of a gadget call over this field.
 fn gadget_over<F: PrimeField64 + 'static>(
     alloc: Global,
     call: &[&str],
@@ -382,7 +383,7 @@ fn gadget_over_named(
     }
 }
 
-/// Adds what a gadget makes of the row of its words, over the field that is named, if one is.
+/// Adds the answer of a gadget call over the named field, or over F without a name.
 pub fn word_gadget<F: PrimeField64 + 'static>(
     alloc: Global,
     call: &[&str],

@@ -1,4 +1,4 @@
-//! What a builder at a row answers, once assertions were made on it.
+//! The answers of a builder at a row, after assertions.
 
 use crate::reports::show_failures;
 use crate::rows::{ExtRow, Row, ext_row, row_of};
@@ -8,7 +8,7 @@ use test_airs::{Airs, TableAir, assert_all};
 use test_lines::Fault;
 use test_lines::words::texts_of;
 
-/// What is asked of the builder after the assertions.
+/// The question to the builder after the assertions.
 #[derive(Drop)]
 pub enum Answer {
     Formatted,
@@ -17,7 +17,7 @@ pub enum Answer {
     Copied,
 }
 
-// How many words there are before the first call: those `KEY:VALUE`.
+// The number of words `KEY:VALUE` before the first call.
 fn words_of_row(words: &[&str]) -> usize {
     let mut count = 0usize;
     for word in words {
@@ -46,7 +46,7 @@ fn assert_on<F: Field + 'static, EF: ExtensionField<F> + 'static>(
     assert_all(alloc, builder, words)
 }
 
-// Adds these texts as words.
+// Appends these texts to the words.
 fn add_words<'a>(texts: &'a [String], words: &mut Vec<&'a str>) -> Result<(), Fault> {
     for text in texts {
         words.push(text.as_str())?;
@@ -89,7 +89,7 @@ fn assert_words<F: Field + 'static, EF: ExtensionField<F> + 'static>(
     }
 }
 
-// Adds the debug texts of copies of failures.
+// Adds the debug texts of copies of the failures.
 fn show_copies(failures: &[ConstraintFailure], text: &mut String) -> Result<(), Fault> {
     for (place, failure) in failures.iter().enumerate() {
         if place > 0 {
@@ -101,7 +101,7 @@ fn show_copies(failures: &[ConstraintFailure], text: &mut String) -> Result<(), 
     Ok(())
 }
 
-// Adds how many failed, and which.
+// Adds the number of failures, and the failures.
 fn show_failed(failures: &[ConstraintFailure], text: &mut String) -> Result<(), Fault> {
     let count = failures.len();
     write!(text, "{count} failed")?;
@@ -118,12 +118,12 @@ fn show_formatted<F: Field, EF: ExtensionField<F>>(
     Ok(())
 }
 
-// Adds whether any failed.
+// Adds whether there are failures.
 fn show_whether(failed: bool, text: &mut String) -> Result<(), Fault> {
     Ok(text.push_str(if failed { "true" } else { "false" })?)
 }
 
-// Adds what the builder answers.
+// Adds the builder's answer.
 fn show_answer<F: Field, EF: ExtensionField<F>>(
     builder: ExtRow<'_, F, EF>,
     answer: Answer,
@@ -137,7 +137,7 @@ fn show_answer<F: Field, EF: ExtensionField<F>>(
     }
 }
 
-// Adds what the builder at this row answers, once these calls were made on it.
+// Adds the answer of the builder at this row, after these calls.
 fn answer_at<F: Field + 'static, EF: ExtensionField<F> + 'static>(
     alloc: Global,
     airs: &Airs<'_, F>,
@@ -151,8 +151,8 @@ fn answer_at<F: Field + 'static, EF: ExtensionField<F> + 'static>(
     show_answer(builder, answer, text)
 }
 
-/// Adds what the builder at a row answers, once assertions were made on it: the words `KEY:VALUE` say what stands at the
-/// row, and those behind them what is asserted.
+/// Adds the answer of the builder at a row, after assertions. The words `KEY:VALUE` describe the row; the words after
+/// them are the assertions.
 pub fn answer_row<F: Field + 'static, EF: ExtensionField<F> + 'static>(
     alloc: Global,
     airs: &Airs<'_, F>,

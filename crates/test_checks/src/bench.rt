@@ -1,4 +1,4 @@
-//! What the lines of a table are tried on.
+//! The state on which the lines of a table are tried.
 
 use crate::assertions::{Answer, answer_row};
 use crate::recorded::{recorded_counter, recorded_elsewhere};
@@ -12,8 +12,8 @@ use test_airs::{Airs, TableAir};
 use test_lines::words::{Number, count_of};
 use test_lines::{Bench, Fault, Line, Why};
 
-/// The AIRs that lines have made, on which checks are tried. (Over any fields, as all functions here: a call on a
-/// builder over given ones is dear to prove.)
+/// The AIRs that lines have made; checks are called on them. (Over any fields, like all functions here, since a call on
+/// a builder over concrete fields is slow to prove.)
 #[derive(Drop)]
 pub struct Checks<'a, F: Field, EF> {
     airs: Airs<'a, F>,
@@ -21,7 +21,7 @@ pub struct Checks<'a, F: Field, EF> {
     extension: PhantomData<EF>,
 }
 
-// What the word of a call on a row asks, if it is one.
+// The question that a call on a row asks, or `None`.
 fn asked_of_row(call: &str) -> Option<Answer> {
     match call {
         "formatted_failures" => Some(Answer::Formatted),
@@ -32,7 +32,7 @@ fn asked_of_row(call: &str) -> Option<Answer> {
     }
 }
 
-// What is asked of a check that reports.
+// The question to a check that returns a report.
 fn asked_of_report(rest: &[&str], copied: bool) -> Result<Asked, Fault> {
     let [cap] = rest else {
         return Err(Fault::Unreadable(Why::NoSuchCall));
@@ -41,7 +41,7 @@ fn asked_of_report(rest: &[&str], copied: bool) -> Result<Asked, Fault> {
     Ok(Asked::Report { cap, copied })
 }
 
-// What is asked of one that says its first fault.
+// The question to a check that returns the first failure.
 fn asked_of_first(rest: &[&str], in_words: bool) -> Result<Asked, Fault> {
     match rest {
         [] => Ok(Asked::First { in_words }),
@@ -49,7 +49,7 @@ fn asked_of_first(rest: &[&str], in_words: bool) -> Result<Asked, Fault> {
     }
 }
 
-// What is asked of a check.
+// The question to a check.
 fn asked_of_check(call: &str, rest: &[&str]) -> Result<Asked, Fault> {
     match call {
         "check_all_constraints" => asked_of_report(rest, false),
@@ -60,7 +60,7 @@ fn asked_of_check(call: &str, rest: &[&str]) -> Result<Asked, Fault> {
     }
 }
 
-// Adds what an audit answers.
+// Adds the answer of an audit.
 fn audit_given<F: Number + 'static>(
     alloc: Global,
     air: &TableAir<F>,
@@ -82,7 +82,7 @@ fn audit_given<F: Number + 'static>(
     )
 }
 
-// Adds what a call on an AIR and what it is checked on answers.
+// Adds the answer of a check or an audit of an AIR on the given trace.
 fn check_given<F: Number + 'static>(
     alloc: Global,
     air: &TableAir<F>,
@@ -98,7 +98,7 @@ fn check_given<F: Number + 'static>(
 }
 
 impl<'a, F: Number + 'static, EF: ExtensionField<F> + 'static> Checks<'a, F, EF> {
-    // Adds what a call on an AIR, a trace and public values answers.
+    // Adds the answer of a call on an AIR, a trace and public values.
     fn check(&self, call: &str, words: &[&str], text: &mut String) -> Result<(), Fault> {
         match words {
             [air, main, public, rest @ ..] => {
@@ -117,7 +117,7 @@ impl<'a, F: Number + 'static, EF: ExtensionField<F> + 'static> Checks<'a, F, EF>
         show_resolved(self.alloc, &self.airs.pool, *x, words, text)
     }
 
-    // Adds what a call answers that is not about a row.
+    // Adds the answer of a call that isn't about a row.
     fn answer_other(&self, call: &str, words: &[&str], text: &mut String) -> Result<(), Fault> {
         match (call, words) {
             ("audit_recorded_counter", [main, weight]) => {
@@ -128,7 +128,7 @@ impl<'a, F: Number + 'static, EF: ExtensionField<F> + 'static> Checks<'a, F, EF>
         }
     }
 
-    // Adds what a call answers.
+    // Adds the answer of a call.
     fn answer_call(&self, call: &str, words: &[&str], text: &mut String) -> Result<(), Fault> {
         if let Some(answer) = asked_of_row(call) {
             return answer_row::<F, EF>(self.alloc, &self.airs, answer, words, text);

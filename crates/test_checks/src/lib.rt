@@ -1,4 +1,4 @@
-//! Checks of traces and of single rows, their reports and labels, and AIRs from outside, as tables.
+//! Tests of checks: whole traces, single rows, reports, labels, and AIRs given by expressions, as tables.
 #![tactic(auto)]
 
 mod assertions;

@@ -1,4 +1,4 @@
-//! Recordings made by hand, as AIRs.
+//! AIRs recorded by hand.
 ghost use Rattle.std.specs.Prelude.{IfOk};
 
 use crate::reports::{given_of, show_audit};
@@ -11,7 +11,7 @@ use std::alloc::Global;
 use test_lines::Fault;
 use test_lines::words::count_of;
 
-// Column 0 is a bit, and from each row to the next column 1 rises by it.
+// Column 0 is a bit, and column 1 increases by it from each row to the next.
 fn assert_counter<AB: AirBuilder>(builder: &mut AB) -> Result<(), AirError>
     requires { AB.ready builder.old }
     ensures { AB.ready builder.new }
@@ -21,7 +21,7 @@ fn assert_counter<AB: AirBuilder>(builder: &mut AB) -> Result<(), AirError>
     record_these(builder, &When(Transition, count))
 }
 
-// A builder that has recorded nothing.
+// A builder with an empty recording.
 fn recording_builder<F: Field>(
     alloc: Global,
     layout: AirLayout,
@@ -31,7 +31,7 @@ fn recording_builder<F: Field>(
     SymbolicAirBuilder::new(alloc, layout)
 }
 
-// What is recorded of it.
+// The recording of the counter.
 fn record_counter<F: Field>(alloc: Global) -> Result<Recorded<F, F>, AirError> {
     let layout = AirLayout {
         main_width: 2,
@@ -42,12 +42,12 @@ fn record_counter<F: Field>(alloc: Global) -> Result<Recorded<F, F>, AirError> {
     Ok(finish_recording(builder))
 }
 
-// The AIR of a recording on a trace of two columns.
+// The AIR of a recording, for a trace of two columns.
 fn air_of<F: Field>(alloc: Global, recorded: Recorded<F, F>) -> Result<FlatAir<F>, AirError> {
     recorded_air(recorded, 2, 0, Vec::new(alloc), Vec::new(alloc))
 }
 
-/// Adds the audit of the counter's recording on a trace.
+/// Adds the audit of the recorded counter on a trace.
 pub fn recorded_counter<F: Field + 'static>(
     alloc: Global,
     main: &str,
@@ -60,14 +60,14 @@ pub fn recorded_counter<F: Field + 'static>(
     show_audit(alloc, &air, &given, weight, text)
 }
 
-// A recording with the pool of none.
+// A recording with its pool replaced by an empty one.
 fn without_pool<F: Field>(alloc: Global, recorded: Recorded<F, F>) -> Recorded<F, F> {
     let Recorded { base, ext, .. } = recorded;
     let pool = ExprPool::new(alloc);
     Recorded { pool, base, ext }
 }
 
-// Adds how a recording's numbers were refused: by the first one.
+// Adds the error if it names the first id of the recording; returns any other error.
 fn show_refusal(error: AirError, first: Option<usize>, text: &mut String) -> Result<(), Fault> {
     match error {
         AirError::IndexPastTotal { index, total } if Some(index) == first => {
@@ -78,7 +78,7 @@ fn show_refusal(error: AirError, first: Option<usize>, text: &mut String) -> Res
     }
 }
 
-/// Adds how the numbers of a recording are refused with the pool of none.
+/// Adds the error for a recording whose pool is replaced by an empty one.
 pub fn recorded_elsewhere<F: Field>(alloc: Global, text: &mut String) -> Result<(), Fault> {
     let recorded = record_counter::<F>(alloc)?;
     let first = recorded.base.first().map(|x| x.number());

@@ -10,9 +10,9 @@ use test_airs::{Constraints, ListAir, TableAir};
 use test_lines::words::listed_elements;
 use test_lines::{Fault, Why};
 
-/// What records an AIR of the base.
+/// The builder that records an AIR over the base field.
 pub type BaseRecorder<F> = SymbolicAirBuilder<F, F>;
-/// What a row is checked by.
+/// The builder that checks a row.
 pub type RowBuilder<'a, F> = DebugConstraintBuilder<'a, F, F>;
 
 /// A trace and public values.
@@ -29,7 +29,7 @@ pub fn given_of<F: Field>(alloc: Global, main: &str, public: &str) -> Result<Giv
     Ok(Given { main, public })
 }
 
-/// Adds the rows and places of failures, and their labels.
+/// Adds the rows, constraint indices and labels of failures.
 pub fn show_failures(failures: &[ConstraintFailure], text: &mut String) -> Result<(), Fault> {
     for failure in failures {
         let row = failure.row;
@@ -49,16 +49,16 @@ fn show(report: &ConstraintReport, text: &mut String) -> Result<(), Fault> {
     show_failures(report.failures.as_slice(), text)
 }
 
-/// What is asked of a check.
+/// The question to a check.
 #[derive(Drop)]
 pub enum Asked {
-    /// Its report, under a cap if there is one, or the debug text of a copy of that.
+    /// The report, under a cap if there is one, or the debug text of a copy of it.
     Report { cap: Option<usize>, copied: bool },
-    /// Its first fault, with a refusal as a fault of the line, or in words.
+    /// The first failure. An error of the check is returned as a fault, or written as its own text if `in_words`.
     First { in_words: bool },
 }
 
-// Adds the first fault of a check.
+// Adds the first failure of a check.
 fn show_first(error: CheckError, in_words: bool, text: &mut String) -> Result<(), Fault> {
     match error {
         CheckError::Refused(error) if !in_words => Err(Fault::from(error)),
@@ -88,7 +88,7 @@ fn show_report(report: &ConstraintReport, copied: bool, text: &mut String) -> Re
     }
 }
 
-// Adds what a check answers.
+// Adds the answer of a check.
 fn answer_check<'a, F: Field + 'static, A: Air<RowBuilder<'a, F>>>(
     alloc: Global,
     air: &'a A,
@@ -109,7 +109,7 @@ fn answer_check<'a, F: Field + 'static, A: Air<RowBuilder<'a, F>>>(
     }
 }
 
-/// Adds what a check of a table's AIR answers.
+/// Adds the answer of a check of a table's AIR.
 pub fn show_check<F: Field + 'static>(
     alloc: Global,
     air: &TableAir<F>,
@@ -127,7 +127,7 @@ fn show_audited<F: Field>(audit: &Audit<F>, text: &mut String) -> Result<(), Fau
     show(&audit.report, text)
 }
 
-/// Adds those of an audit in a domain of this weight.
+/// Adds the inferred degree and the report of an audit with this weight of the transition selector.
 pub fn show_audit<
     'a,
     F: Field + 'static,
@@ -143,8 +143,8 @@ pub fn show_audit<
     show_audited(&audit, text)
 }
 
-/// The same of a table's AIR, if its constraints are over the base field. Over any field: at a given one the checker
-/// compares more than its limit allows.
+/// Adds the audit of a table's AIR, if its constraints are over the base field. (Over any field: at a concrete one the
+/// comparison exceeds the checker's limit.)
 pub fn show_base_audit<F: Field + 'static>(
     alloc: Global,
     air: &TableAir<F>,

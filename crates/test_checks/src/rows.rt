@@ -23,11 +23,11 @@ pub struct Two<T> {
     pub next: Vec<T>,
 }
 
-/// What stands at a row.
+/// The values at a row.
 #[derive(Drop)]
 pub struct Row<F, EF> {
     pub index: usize,
-    /// From where the builder counts.
+    /// The constraint index at which the builder starts to count.
     pub from: usize,
     pub main: Two<F>,
     pub preprocessed: Two<F>,
@@ -46,7 +46,7 @@ fn empty_rows<T: Drop>(alloc: Global) -> Two<T> {
     }
 }
 
-// The row `CURRENT/NEXT`, or one that stands twice.
+// The row `CURRENT/NEXT`; without `/NEXT` the next row is the same.
 fn two_of<F: Field>(alloc: Global, word: &str) -> Result<Two<F>, Fault> {
     let (current, next) = word.split_once('/').unwrap_or((word, word));
     let current = listed_elements(alloc, current)?;
@@ -54,7 +54,7 @@ fn two_of<F: Field>(alloc: Global, word: &str) -> Result<Two<F>, Fault> {
     Ok(Two { current, next })
 }
 
-// An element of the extension: its coefficients, which `.` separates.
+// An element of the extension, given by its coefficients, separated by `.`.
 fn element_of_extension<F: Field, EF: ExtensionField<F>>(
     alloc: Global,
     word: &str,
@@ -66,7 +66,7 @@ fn element_of_extension<F: Field, EF: ExtensionField<F>>(
     extension_of::<F, EF>(alloc, parts.as_slice())
 }
 
-// Elements of the extension, which commas separate.
+// Elements of the extension, separated by commas.
 fn listed_extension<F: Field, EF: ExtensionField<F>>(
     alloc: Global,
     word: &str,
@@ -140,7 +140,7 @@ impl<F: Field, EF: ExtensionField<F>> Row<F, EF> {
         Ok(())
     }
 
-    // Sets what a word `KEY:VALUE` says.
+    // Sets the values that a word `KEY:VALUE` gives.
     fn set(&mut self, alloc: Global, key: &str, value: &str) -> Result<(), Fault> {
         match key {
             "row" | "counting_from" => self.set_count(key, value),
@@ -152,7 +152,7 @@ impl<F: Field, EF: ExtensionField<F>> Row<F, EF> {
         }
     }
 
-    // The selectors of the first row, the last one and the others; without a word for them all are 0.
+    // The first-row, last-row and transition selectors; all are 0 if no word gives them.
     fn selectors(&self) -> Result<(F, F, F), Fault> {
         match self.selectors.as_slice() {
             [] => Ok((F::ZERO, F::ZERO, F::ZERO)),
@@ -177,7 +177,7 @@ pub fn row_of<F: Field, EF: ExtensionField<F>>(
     Ok(row)
 }
 
-// The views of two rows of one length.
+// The views of two rows of equal length.
 fn pair<'a, T: Copy>(rows: &'a Two<T>) -> Result<ViewPair<'a, T>, Fault> {
     let current = rows.current.as_slice();
     let next = rows.next.as_slice();
@@ -236,7 +236,7 @@ pub fn ext_row<'a, F: Field, EF: ExtensionField<F>>(
     Ok(builder.counting_from(row.from))
 }
 
-// Adds a number, or `-` where there is none.
+// Adds a number, or `-` for `None`.
 fn show_found<F: Number>(found: Option<F>, text: &mut String) -> Result<(), Fault> {
     match found {
         Some(x) => {
@@ -248,7 +248,7 @@ fn show_found<F: Number>(found: Option<F>, text: &mut String) -> Result<(), Faul
     Ok(())
 }
 
-// Adds both rows of a window, up to the first column that it hasn't.
+// Adds both rows of a window, up to the first column out of range.
 fn show_window<F: Number>(
     window: &RowWindow<'_, F>,
     width: usize,
@@ -265,7 +265,7 @@ fn show_window<F: Number>(
     Ok(())
 }
 
-// Adds both windows of these widths.
+// Adds both windows, which have these widths.
 fn show_windows<F: Number + 'static>(
     builder: &PlainRow<'_, F>,
     main: usize,
@@ -278,7 +278,7 @@ fn show_windows<F: Number + 'static>(
     show_window(builder.preprocessed(), preprocessed, text)
 }
 
-// Adds the public and the periodic values.
+// Adds the public values and the periodic values.
 fn show_values<F: Number + 'static>(
     builder: &PlainRow<'_, F>,
     text: &mut String,
@@ -312,7 +312,7 @@ fn show_selectors<F: Number + 'static>(
     show_elements(selectors.as_slice(), text)
 }
 
-// Adds what there is of permutation data.
+// Adds the numbers of challenges and permutation values, and whether there is a permutation trace.
 fn show_permutation<F: Number + 'static>(
     builder: &PlainRow<'_, F>,
     text: &mut String,
@@ -327,7 +327,7 @@ fn show_permutation<F: Number + 'static>(
     Ok(())
 }
 
-// Adds what a builder lends whose windows have these widths.
+// Adds all values of a builder whose windows have these widths.
 fn show_lent<F: Number + 'static>(
     alloc: Global,
     builder: &mut PlainRow<'_, F>,
@@ -341,7 +341,7 @@ fn show_lent<F: Number + 'static>(
     show_permutation(builder, text)
 }
 
-// Adds what the builder at this row lends.
+// Adds all values of the builder at this row.
 fn lend_at<F: Number + 'static>(
     alloc: Global,
     row: &Row<F, F>,
@@ -352,7 +352,7 @@ fn lend_at<F: Number + 'static>(
     show_lent(alloc, &mut builder, main, preprocessed, text)
 }
 
-/// Adds what the builder at a row lends.
+/// Adds all values of the builder at a row.
 pub fn lend<F: Number + 'static>(
     alloc: Global,
     words: &[&str],

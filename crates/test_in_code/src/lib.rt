@@ -1,4 +1,4 @@
-//! Tests that no line of a table can say: streams that fail, lazy names, drops, contexts, errors through `?`.
+//! Tests that no line of a table can express: failing streams, lazy names, contexts, and errors through `?`.
 #![tactic(auto)]
 
 #[cfg(test)]

@@ -1,4 +1,4 @@
-//! Tests, a file a layer, and what several of them assert.
+//! One file of tests for each layer, and what several of them share.
 mod builders;
 mod checks;
 mod labels;

@@ -1,11 +1,11 @@
--- Numbers in decimals, one behind the other.
+-- Decimal numbers with spaces between them.
 use Rattle.std.specs.Prelude.{◌==◌, if◌then◌else◌, codes, decimal}
 use Rattle.std.specs.List.{join_with_byte}
 use Rattle.std.proofs.Common.{◌≡◌, ℕ, zero, suc, ◌+◌, ◌<◌, ◌≤◌, cond, List, [], ◌∷◌, ◌++◌, length, map, take, get_or, append_assoc, refl, sym, ap, ◌∙◌, arith}
 use Rattle.std.proofs.lemmas.Bool.{ne_eqb}
 use Rattle.std.proofs.lemmas.List.{take_more, take_all, map-append}
 
--- the numbers, with spaces between them
+-- the numbers, separated by spaces
 abbrev pub with_spaces : {A : Type 0} → (A → ℕ) → List A → List ℕ
 with_spaces f xs = join_with_byte 32 (map decimal (map f xs))
 
@@ -22,7 +22,7 @@ spaced-end f (y ∷ ys) (suc k) x lt =
     ∙ join-more 32 (decimal (f y)) (map decimal (map f (take k ys))) (decimal (f x))
     ∙ ap (λ b. join_with_byte 32 (decimal (f y) ∷ map decimal (map f (take k ys))) ++ (cond b [] (codes " ") ++ decimal (f x))) (sym (ne_eqb (suc k) 0 (λ e. absurd (omega arith))))
 
--- one number more
+-- appends one number
 pub spaced-more : {A : Type 0} (f : A → ℕ) (xs : List A) (k : ℕ) (x : A) (start old mid new : List ℕ)
     → k < length xs → x ≡ get_or xs k x → old ≡ start ++ with_spaces f (take k xs)
     → mid ≡ old ++ (if k == 0 then [] else codes " ") → new ≡ mid ++ decimal (f x) → new ≡ start ++ with_spaces f (take (k + 1) xs)
@@ -33,7 +33,7 @@ spaced-more f xs k x start old mid new lt is h separated written =
     ∙ append_assoc (start ++ with_spaces f (take k xs)) s (decimal (f x)) ∙ append_assoc start (with_spaces f (take k xs)) (s ++ decimal (f x))
     ∙ ap (λ t. start ++ t) (sym (spaced-end f xs k x lt) ∙ ap (with_spaces f) (sym here))
 
--- all of them, between brackets
+-- all numbers, in brackets
 pub spaced-all : {A : Type 0} (f : A → ℕ) (xs : List A) (k : ℕ) (start text new : List ℕ)
     → length xs ≤ k → text ≡ (start ++ codes "[") ++ with_spaces f (take k xs) → new ≡ text ++ codes "]"
     → new ≡ start ++ (codes "[" ++ (with_spaces f xs ++ codes "]"))

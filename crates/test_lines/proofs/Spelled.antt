@@ -1,4 +1,4 @@
--- The text that the letters read so far spell.
+-- The text spelled by the letters read so far.
 use Rattle.std.specs.Prelude.{Option, None, Some, Result, Ok, Err, ok_or, encode_utf8, encode_utf8_all, if◌then◌else◌}
 use Rattle.std.specs.List.{AllZip, concat}
 use Rattle.std.specs.Str.{chars}
@@ -8,7 +8,7 @@ use Rattle.std.proofs.lemmas.Str.{encodes-append}
 use Rattle.test_lines.specs.Spelled.{escaped_letter, SpellsLetter, SpellsText}
 use Rattle.test_lines.proofs.Lists.{AllZip-end}
 
--- whole pieces were read, and behind them a backslash, where there is one
+-- the letters read are whole pieces, followed by a backslash if `behind`
 pub record SpellsSoFar (read : List ℕ) (behind : Bool) (text : List ℕ) : Type 0 where
   pub pieces : List (List ℕ)
   pub letters : List ℕ
@@ -26,7 +26,7 @@ encodes-end cs c = encodes-append cs (c ∷ []) ∙ ap (λ t. encode_utf8_all cs
 pub spells-nothing : SpellsSoFar [] false []
 spells-nothing = record { pieces = []; letters = []; each = tt; read_is = refl; text_is = refl }
 
--- a backslash more
+-- reads a backslash
 pub spells-behind : (read text : List ℕ) → SpellsSoFar read false text → SpellsSoFar (read ++ 92 ∷ []) true text
 spells-behind read text h = record {
   pieces = h.pieces;
@@ -36,7 +36,7 @@ spells-behind read text h = record {
   text_is = h.text_is;
 }
 
--- a letter more, which ends a piece
+-- reads a letter that ends a piece
 pub spells-more : (read text : List ℕ) (behind : Bool) (c letter : ℕ) → SpellsSoFar read behind text
     → SpellsLetter ((if behind then 92 ∷ [] else []) ++ c ∷ []) letter → SpellsSoFar (read ++ c ∷ []) false (text ++ encode_utf8 letter)
 spells-more read text behind c letter h s =
@@ -49,7 +49,7 @@ spells-more read text behind c letter h s =
       text_is = ap (λ t. t ++ encode_utf8 letter) h.text_is ∙ sym (encodes-end h.letters letter);
     }
 
--- all was read
+-- all letters are read
 pub spells-all : (word text read : List ℕ) → read ≡ chars word → SpellsSoFar read false text → SpellsText word text
 spells-all word text read e h = record {
   pieces = h.pieces;
@@ -59,7 +59,7 @@ spells-all word text read e h = record {
   text_is = h.text_is;
 }
 
--- a letter that is refused stands for none
+-- if `ok_or` gives an error, the option is None
 pub no-letter : {E : Type 0} (o : Option ℕ) (e y : E) → ◌≡◌ {A = Result ℕ E} (Err y) (ok_or o e) → (o ≡ None) × (y ≡ e)
 no-letter None e y h = (refl, cc)
 no-letter (Some x) e y h = absurd (clash x e y h)
@@ -67,7 +67,7 @@ no-letter (Some x) e y h = absurd (clash x e y h)
     clash : {E : Type 0} (x : ℕ) (e y : E) → ◌≡◌ {A = Result ℕ E} (Err y) (ok_or (Some x) e) → ⊥
     clash x e y h = cc
 
--- a letter that isn't refused is the one that stands there
+-- if `ok_or` gives a value, the option holds it
 pub letter-of : {E : Type 0} (o : Option ℕ) (e : E) (x : ℕ) → ◌≡◌ {A = Result ℕ E} (Ok x) (ok_or o e) → o ≡ Some x
 letter-of None e x h = cc
 letter-of (Some y) e x h = cc
@@ -87,7 +87,7 @@ no-piece piece text letter h e = elim h [
   | inr a ↦ absurd-cons 92 (a.0 ∷ text) (ap (λ p. p ++ text) (sym a.1) ∙ e)
 ]
 
--- two texts that begin with a piece each begin with the same one
+-- equal texts that each begin with a piece have equal rests
 same-piece : (p q s t : List ℕ) (l m : ℕ) → SpellsLetter p l → SpellsLetter q m → p ++ s ≡ q ++ t → s ≡ t
 same-piece p q s t l m h k e = elim h [
   | inl a ↦ elim k [
@@ -100,7 +100,7 @@ same-piece p q s t l m h k e = elim h [
   ]
 ]
 
--- whole pieces, and behind them what begins with no piece, are no pieces
+-- whole pieces followed by something that begins with no piece are not a list of pieces
 spells-stuck : (rest : List ℕ) → (rest ≡ [] → ⊥) → ((q s : List ℕ) (l : ℕ) → SpellsLetter q l → rest ≡ q ++ s → ⊥)
     → (ps : List (List ℕ)) (ls : List ℕ) (qs : List (List ℕ)) (ks : List ℕ)
     → AllZip SpellsLetter ps ls → AllZip SpellsLetter qs ks → concat ps ++ rest ≡ concat qs → ⊥
@@ -131,20 +131,20 @@ stuck-open q s l h e = elim h [
     clash : (x : ℕ) (xs : List ℕ) → [] ≡ x ∷ xs → ⊥
     clash x xs e = cc
 
--- a letter behind a backslash that stands for none
+-- a letter without a meaning after a backslash: the word spells no text
 pub spells-none : (word read rest text : List ℕ) (c : ℕ) → read ++ c ∷ rest ≡ chars word → escaped_letter c ≡ None
     → (t : List ℕ) → SpellsSoFar read true t → SpellsText word text → ⊥
 spells-none word read rest text c e none t h s =
     spells-stuck (92 ∷ c ∷ rest) (λ z. absurd-cons 92 (c ∷ rest) z) (stuck-none c rest none) h.pieces h.letters s.pieces s.letters h.each s.each
     (sym (append_assoc (concat h.pieces) (92 ∷ []) (c ∷ rest)) ∙ sym (ap (λ r. r ++ c ∷ rest) h.read_is) ∙ e ∙ s.word_is)
 
--- a backslash at the end
+-- a backslash at the end: the word spells no text
 pub spells-open : (word read text : List ℕ) → read ≡ chars word
     → (t : List ℕ) → SpellsSoFar read true t → SpellsText word text → ⊥
 spells-open word read text e t h s =
     spells-stuck (92 ∷ []) (λ z. absurd-cons 92 [] z) stuck-open h.pieces h.letters s.pieces s.letters h.each s.each (sym h.read_is ∙ e ∙ s.word_is)
 
--- what was read, the next letter, and what is left
+-- the letters read, the next letter and the rest make up the list
 pub read-next : (cs read : List ℕ) (c : ℕ) → read ≡ take (length read) cs → length read < length cs → c ≡ get_or cs (length read) c
     → read ++ c ∷ drop (suc (length read)) cs ≡ cs
 read-next cs read c e lt is =

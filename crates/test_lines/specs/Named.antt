@@ -1,4 +1,4 @@
--- Names, and what they stand for.
+-- Names and their values.
 use Rattle.std.specs.Prelude.{◌≡◌, ℕ, List, map, Option, bytes_eq, option_and_then}
 use Rattle.std.specs.Global.{Global}
 use Rattle.std.specs.Vec.{vec_allocator}
@@ -9,19 +9,19 @@ use Rattle.test_lines.specs.declared.names.Names.{Names}
 abbrev pub names_in : {T : Type 0} → Names T → List (List ℕ)
 names_in n = map (λ w. w.now) n.words.items
 
--- what each of them stands for
+-- the values of the names, in the same order
 abbrev pub named_values : {T : Type 0} → Names T → List T
 named_values n = n.values.items
 
--- what a name stands for, if it is there: the value at its first place
+-- the value at the first position of the name, if there is one
 abbrev pub value_named : {T : Type 0} → Names T → List ℕ → Option T
 value_named n name = option_and_then (slice_get (named_values n)) (position (λ w. bytes_eq w.now name) n.words.items)
 
--- the allocator that the values are held by
+-- the allocator that holds the values
 abbrev pub allocator_of : {T : Type 0} → Names T → Global
 allocator_of n = vec_allocator n.values
 
--- the names are the same, and stand for the same
+-- the same names with the same values
 pub record HaveSameNames {T : Type 0} (a b : Names T) : Type 0 where
   pub names : b.words.items ≡ a.words.items
   pub values : named_values b ≡ named_values a

@@ -1,20 +1,20 @@
--- What is counted of lines, and what is told of a line without an answer.
+-- Line counts, and the faults that are refusals.
 use Rattle.std.specs.Prelude.{ℕ, ◌+◌, ◌-◌, ◌^◌, min, ⊤}
 use Rattle.air_json.specs.declared.errors.FlatError.{FlatError}
 use Rattle.air_json.specs.declared.errors.FlatError.TheVariants as errors
 use Rattle.test_lines.specs.declared.faults.Fault.{Fault}
 use Rattle.test_lines.specs.declared.faults.Fault.TheVariants.{Memory, Stream, Air, List, Matrix, Unreadable}
 
--- one line more, unless the count is the greatest already
+-- one more, up to the largest 64-bit number
 abbrev pub one_more : ℕ → ℕ
 one_more n = min (n + 1) (2 ^ 64 - 1)
 
--- what the refusal of a list is told as: want of memory is one for all
+-- the fault of a list's error; out of memory is one fault for all
 abbrev pub list_fault : FlatError → Fault
 list_fault errors.Memory = Memory
 list_fault error = List error
 
--- a call was refused, for another reason than memory
+-- a call was refused, and not because it ran out of memory
 abbrev pub IsRefusal : Fault → Type 0
 IsRefusal fault = elim fault [
   | Memory ↦ ⊥

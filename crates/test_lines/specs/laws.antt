@@ -1,2 +1,2 @@
--- Laws of what specs/ defines: implementations cite them, and the layers above build on them.
+-- Laws about the definitions of specs/. Implementations and higher layers cite them.
 pub mod Numbers

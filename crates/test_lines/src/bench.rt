@@ -1,4 +1,4 @@
-//! What a layer says of its tables.
+//! What a layer says about its tables.
 ghost use Rattle.std.specs.Prelude.{◌≢◌, OnOk};
 
 use crate::faults::Fault;
@@ -7,21 +7,21 @@ use crate::report::Report;
 use crate::tables::Table;
 use std::alloc::Global;
 
-/// What the lines of a table are tried on.
+/// The state on which the lines of a table are tried.
 pub trait Bench<'a>: Sized + Drop {
-    /// What a table begins with, and each line `new`.
+    /// The state at the start of a table, and after each line `new`.
     fn new(alloc: Global) -> Self;
 
-    /// Adds what the line's call answers, and keeps it under the line's name.
+    /// Adds the answer of the line's call to `text`, and keeps it under the line's name.
     fn answer(&mut self, line: &Line<'a>, text: &mut String) -> Result<(), Fault>;
 
-    /// Adds what has to stand when a call was refused for want of memory, as what the names stand for.
+    /// Adds the state that must not change when a call runs out of memory, such as the values of the names.
     fn show_state(&self, text: &mut String) -> Result<(), Fault>;
 }
 
 /// The tables of a program.
 pub trait Tables {
-    /// Checks the lines of a table by its head, the table's first line without `# `. A table without lines is refused.
+    /// Checks the lines of a table. `head` is the table's first line without `# `. A table without lines is an error.
     fn check(
         rt: &HostRuntime,
         head: &str,

@@ -12,9 +12,9 @@ use std::io;
 /// A call was refused, a line can't be read, or the program has to give up.
 #[derive(Debug, Drop)]
 pub enum Fault {
-    /// A growth was refused.
+    /// Out of memory.
     Memory,
-    /// A stream failed.
+    /// Reading or writing a stream failed.
     Stream,
     /// A call was refused.
     Air(AirError),
@@ -22,11 +22,11 @@ pub enum Fault {
     List(FlatError),
     /// The values of a matrix were refused.
     Matrix(MatrixError),
-    /// The line says nothing that the program knows.
+    /// The program doesn't understand the line.
     Unreadable(Why),
 }
 
-/// What a line that can't be read has, or lacks. (It holds no text: a refusal that does gets no proof at a `?`.)
+/// Why a line can't be read. (It holds no text: an error with text can't be proved at a `?`.)
 #[derive(Debug, Drop)]
 pub enum Why {
     MakesNothing,
@@ -106,7 +106,7 @@ impl From<MatrixError> for Fault {
     }
 }
 
-/// Adds why a line has no answer; whether it is one that a call can give.
+/// Adds why a line has no answer. Returns whether this is a refusal, which a line may expect.
 pub fn show_refusal(fault: Fault, text: &mut String) -> Result<bool, Fault>
     ensures answers { IfOk result (λ answers. (answers ≡ true) ↔ IsRefusal fault) }
     ensures refused { IfErr result (λ e. (e ≡ Memory) ⊎ ((e ≡ Stream) × (fault ≡ Stream))) }

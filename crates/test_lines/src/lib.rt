@@ -1,5 +1,5 @@
-//! Tests as tables of text: each line makes a call and says what it answers. What every program of tables needs stands
-//! here; what a layer's calls are, a program says by a [`Bench`] and its [`Tables`].
+//! Tests as tables of text: each line makes a call and gives the expected answer. This crate holds what every program
+//! of tables needs; a program defines the calls of a layer by a [`Bench`] and its [`Tables`].
 #![tactic(auto)]
 
 pub mod bench;

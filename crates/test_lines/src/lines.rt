@@ -1,21 +1,21 @@
-//! A table's lines.
+//! The lines of a table.
 ghost use Rattle.std.specs.Prelude.{◌⊎◌, IfOk, IsSome};
 
 use crate::faults::{Fault, Why};
 use crate::words::count_of;
 use std::alloc::Global;
 
-/// A call, the name that its answer gets, and the text that it has to have.
+/// A call, the name for its answer, and the expected answer.
 #[derive(Drop)]
 pub struct Line<'a> {
     pub name: Option<&'a str>,
-    /// How often the call is made, each time with the name for the last answer.
+    /// How often the call is made; each time the name gets the last answer.
     pub times: Option<usize>,
     pub words: Vec<&'a str>,
     pub wanted: Option<&'a str>,
 }
 
-// The words of a text, which single spaces separate.
+// The words of a text, separated by single spaces.
 fn words_of<'a>(alloc: Global, text: &'a str) -> Result<Vec<&'a str>, Fault> {
     let mut words = Vec::new(alloc);
     for word in text.split(' ') {
@@ -24,7 +24,7 @@ fn words_of<'a>(alloc: Global, text: &'a str) -> Result<Vec<&'a str>, Fault> {
     Ok(words)
 }
 
-// A count from 1.
+// A count of at least 1.
 fn times_of(word: &str) -> Result<usize, Fault> {
     match count_of(word)? {
         0 => Err(Fault::Unreadable(Why::NoNumber)),
@@ -32,7 +32,7 @@ fn times_of(word: &str) -> Result<usize, Fault> {
     }
 }
 
-// The count and the name of `repeat COUNT NAME`, or the name alone.
+// The count and the name of `repeat COUNT NAME`, or only the name.
 fn name_of(text: &str) -> Result<(Option<usize>, &str), Fault> {
     match text.split_once(' ') {
         Some(("repeat", rest)) => match rest.split_once(' ') {
@@ -44,8 +44,8 @@ fn name_of(text: &str) -> Result<(Option<usize>, &str), Fault> {
     }
 }
 
-/// The line of a text `CALL => WANTED`, `NAME = CALL`, `NAME = CALL => WANTED` or `repeat COUNT NAME = CALL`: none is
-/// taken that neither wants an answer nor names it.
+/// Parses `CALL => WANTED`, `NAME = CALL`, `NAME = CALL => WANTED` or `repeat COUNT NAME = CALL`. A line with neither a
+/// name nor an expected answer is an error.
 pub fn line_of<'a>(alloc: Global, text: &'a str) -> Result<Line<'a>, Fault>
     ensures checks { IfOk result (λ line. IsSome line.name ⊎ IsSome line.wanted) }
 {

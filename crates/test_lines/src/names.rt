@@ -1,4 +1,4 @@
-//! The names that lines give to what they make.
+//! The names of the values that lines make.
 ghost use Rattle.std.specs.Prelude.{◌≡◌, ◌⊎◌, [], map, IfErr, OnErr, ok_or, bytes_eq};
 ghost use Rattle.std.specs.List.{position};
 ghost use Rattle.test_lines.specs.Named.{names_in, named_values, value_named, allocator_of, HaveSameNames};
@@ -6,10 +6,10 @@ ghost use Rattle.test_lines.specs.Named.{names_in, named_values, value_named, al
 use crate::faults::{Fault, Why};
 use std::alloc::Global;
 
-/// Names, and what they stand for.
+/// Names and their values.
 #[derive(Drop)]
 pub struct Names<'a, T> {
-    // (Two lists, since a list of pairs of a text and a value with a model gets no proof.)
+    // (Two lists, since a list of pairs of a text and a value with a model can't be proved.)
     words: Vec<&'a str>,
     values: Vec<T>,
 }
@@ -40,21 +40,21 @@ impl<'a, T: Copy> Names<'a, T> {
         self.words.as_slice()
     }
 
-    /// What each of them stands for.
+    /// The values of the names, in the same order.
     pub fn values(&self) -> &[T]
         ensures { result.now ≡ named_values self.now }
     {
         self.values.as_slice()
     }
 
-    // The place of a name.
+    // The position of a name.
     fn place(&self, name: &str) -> Option<usize>
         ensures { result ≡ position (λ w. bytes_eq w.now name.now) self.now.words.items }
     {
         self.words.iter().position(|word| *word == name)
     }
 
-    /// What a name stands for.
+    /// The value of a name.
     pub fn get(&self, name: &str) -> Result<T, Fault>
         ensures { result ≡ ok_or (value_named self.now name.now) (Fault.Unreadable Why.NoSuchName) }
     {
@@ -67,7 +67,7 @@ impl<'a, T: Copy> Names<'a, T> {
         }
     }
 
-    /// Gives a name to a value, a name that has one only `again`. Where it is refused the names are as they were.
+    /// Names a value. A name that already has a value is replaced only if `again`. On an error the names are unchanged.
     pub fn bind(&mut self, name: &'a str, value: T, again: bool) -> Result<(), Fault>
         ensures refused { IfErr result (λ e. (e ≡ Fault.Memory)
             ⊎ (e ≡ Fault.Unreadable Why.NameIsTaken) ⊎ (e ≡ Fault.Unreadable Why.NoSuchName)) }

@@ -1,24 +1,24 @@
-//! What is found of the lines.
+//! Counts of the lines.
 ghost use Rattle.std.specs.Prelude.{◌≡◌, false, if◌then◌else◌};
 ghost use Rattle.test_lines.specs.Reports.{one_more};
 
 use crate::faults::Fault;
 
-/// How many lines there are, and how many of them differ.
+/// The number of lines, and how many of them differ.
 #[derive(Drop)]
 pub struct Report {
     pub lines: usize,
     pub differ: usize,
-    /// The number of the line that is being tried, from 1.
+    /// The number of the current line, from 1.
     pub at: usize,
-    /// Whether a call that is refused for want of memory is made again, after a look at what stands.
+    /// Whether to check the state after a call that ran out of memory, and to make the call again.
     pub again: bool,
-    /// Whether the call of the line that is being tried was refused so, and made again.
+    /// Whether the current line's call ran out of memory and was made again.
     pub refused: bool,
 }
 
 impl Report {
-    /// Nothing is counted yet.
+    /// A report in which nothing is counted.
     pub fn new(again: bool) -> Self
         ensures lines { result.lines ≡ 0 }
         ensures differ { result.differ ≡ 0 }
@@ -34,8 +34,8 @@ impl Report {
         }
     }
 
-    /// Counts a line, whatever becomes of the printing, and prints one that differs, or whose call was made again. The
-    /// next line begins with no call refused.
+    /// Counts a line, even if printing fails. Prints it if it differs, or if its call was made again. Then resets
+    /// `refused`.
     pub fn count(
         &mut self,
         rt: &impl Print,

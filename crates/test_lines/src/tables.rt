@@ -17,7 +17,7 @@ pub struct Table<'a> {
     pub text: &'a str,
 }
 
-// Adds what the line's call answers, the last time where there are several.
+// Adds the answer of the line's call, or the last answer if the call is repeated.
 fn answer_times<'a, B: Bench<'a>>(
     bench: &mut B,
     line: &Line<'a>,
@@ -30,8 +30,8 @@ fn answer_times<'a, B: Bench<'a>>(
     Ok(())
 }
 
-// Makes a call once more that is refused for want of memory. What has to stand must stand as before it; whether it
-// does, and else `text` holds what stands.
+// Makes the line's call, and once more if it ran out of memory. The state must be the same before and after the
+// failure; if not, returns `false` and puts the new state into `text`.
 fn answer_again<'a, B: Bench<'a>>(
     alloc: Global,
     bench: &mut B,
@@ -59,7 +59,7 @@ fn answer_again<'a, B: Bench<'a>>(
     Ok(false)
 }
 
-// Whether a call's answer is the one that is wanted, if one is; `text` holds it, or gets the refusal.
+// Whether the call gave the expected answer. `text` holds the answer, or receives the error.
 fn is_wanted(
     wanted: Option<&str>,
     answer: Result<(), Fault>,
@@ -78,7 +78,7 @@ fn is_wanted(
     }
 }
 
-// Whether the line's call answers what is wanted; `text` gets what it answers.
+// Whether the line's call gives the expected answer; `text` receives the answer.
 fn is_right<'a, B: Bench<'a>>(
     alloc: Global,
     bench: &mut B,
@@ -99,8 +99,8 @@ fn is_right<'a, B: Bench<'a>>(
     }
 }
 
-/// Checks each line of a table but the first one, comments and empty ones. At a line `new` the bench is made anew. A
-/// table in which no line is counted is refused (`NoLines`).
+/// Checks each line of a table except the first one, comments and empty lines. A line `new` starts with a new bench. A
+/// table in which no line is counted is an error (`NoLines`).
 pub fn check_lines<'a, B: Bench<'a>>(
     rt: &HostRuntime,
     table: &Table<'a>,
@@ -149,7 +149,7 @@ fn check_table<T: Tables>(
     }
 }
 
-// Checks the table in a file. Whether it could be gone through.
+// Checks the table in a file. Returns whether all of it could be checked.
 fn check_file<T: Tables>(rt: &HostRuntime, name: &str, report: &mut Report) -> Result<bool, Fault> {
     report.at = 0;
     let checked = match fs::read_to_string(rt, name) {
@@ -164,8 +164,8 @@ fn check_file<T: Tables>(rt: &HostRuntime, name: &str, report: &mut Report) -> R
     Ok(true)
 }
 
-// Status 0 where each table was gone through, there are lines, and none differs; 2 where a table wasn't gone through,
-// else 1.
+// The status: 0 if each table was checked to its end, there are lines, and none differs; 2 if some table was not
+// checked to its end; otherwise 1.
 fn status_of(whole: bool, report: &Report) -> u8
     ensures good { (result ≡ 0)
         ↔ ((whole ≡ true) × (0 < report.now.lines) × (report.now.differ ≡ 0)) }
@@ -181,7 +181,7 @@ fn status_of(whole: bool, report: &Report) -> u8
     }
 }
 
-// Checks the table of each word, and answers the status.
+// Checks the table of each word, and returns the status.
 fn check_all<T: Tables>(rt: &HostRuntime) -> Result<u8, Fault>
     ensures { IfOk result (λ status. status ≤ 2) }
 {
@@ -199,8 +199,8 @@ fn check_all<T: Tables>(rt: &HostRuntime) -> Result<u8, Fault>
     Ok(status_of(whole, &report))
 }
 
-/// Checks the tables that the program's words name; behind a word `again` each call that is refused for want of memory
-/// is made once more. Prints each line that differs, and then how many lines there are and how many differ.
+/// Checks the tables that the program's arguments name. After an argument `again`, each call that runs out of memory is
+/// made once more. Prints each line that differs, then the number of lines and how many of them differ.
 pub fn run<T: Tables>(rt: &HostRuntime) -> ExitCode
     ensures status { exit_status result ≤ 2 }
 {

@@ -42,7 +42,7 @@ impl<F: PrimeField64> Number for F {
     }
 }
 
-/// A count.
+/// Parses a count.
 pub fn count_of(word: &str) -> Result<usize, Fault>
     ensures number { OkIff result (IsNumber word.now) (decimal_number word.now) }
     ensures refused { IfErr result (λ e. e ≡ Fault.Unreadable Why.NoNumber) }
@@ -53,7 +53,7 @@ pub fn count_of(word: &str) -> Result<usize, Fault>
     }
 }
 
-/// A number.
+/// Parses a number.
 pub fn number_of(word: &str) -> Result<u64, Fault>
     ensures number { OkIff result (IsNumber word.now) (decimal_number word.now) }
     ensures refused { IfErr result (λ e. e ≡ Fault.Unreadable Why.NoNumber) }
@@ -64,7 +64,7 @@ pub fn number_of(word: &str) -> Result<u64, Fault>
     }
 }
 
-// The parts of a word, which an ASCII character separates.
+// The parts of a word, separated by an ASCII character.
 fn parts_of<'a>(alloc: Global, word: &'a str, separator: char) -> Result<Vec<&'a str>, Fault>
     ensures parts { separator < 128
         → IfOk result (λ ps. map (λ p. p.now) ps.items ≡ parts_at separator word.now) }
@@ -74,7 +74,7 @@ fn parts_of<'a>(alloc: Global, word: &'a str, separator: char) -> Result<Vec<&'a
     Ok(parts)
 }
 
-// The parts of a word, which commas separate; `-`: there is none.
+// The parts of a word, separated by commas; none if the word is `-`.
 fn listed_parts<'a>(alloc: Global, word: &'a str) -> Result<Vec<&'a str>, Fault>
     ensures parts { IfOk result (λ ps. map (λ p. p.now) ps.items ≡ comma_parts word.now) }
     ensures refused { IfErr result (λ e. e ≡ Fault.Memory) }
@@ -86,7 +86,7 @@ fn listed_parts<'a>(alloc: Global, word: &'a str) -> Result<Vec<&'a str>, Fault>
     }
 }
 
-/// Counts, which commas separate; `-`: there is none.
+/// Counts separated by commas; none if the word is `-`.
 pub fn counts_of(alloc: Global, word: &str) -> Result<Vec<usize>, Fault>
     ensures counts { IfOk result (λ ns. AllZip SpellsNumber ns.items (comma_parts word.now)) }
     ensures refused { IfErr result (λ e. (e ≡ Fault.Memory)
@@ -108,7 +108,7 @@ pub fn element_of<F: Field>(word: &str) -> Result<F, Fault>
     Ok(F::from_u64(number_of(word)?))
 }
 
-/// Elements, a word each.
+/// Elements, one for each word.
 pub fn elements_of<F: Field>(alloc: Global, words: &[&str]) -> Result<Vec<F>, Fault>
     ensures elements { IfOk result (λ xs.
         AllZip (λ x w. SpellsElement F.ring x w.now) xs.items words.now) }
@@ -122,7 +122,7 @@ pub fn elements_of<F: Field>(alloc: Global, words: &[&str]) -> Result<Vec<F>, Fa
     Ok(all)
 }
 
-/// Elements of one word, which commas separate; `-`: there is none.
+/// The elements of one word, separated by commas; none if the word is `-`.
 pub fn listed_elements<F: Field>(alloc: Global, word: &str) -> Result<Vec<F>, Fault>
     ensures elements { IfOk result (λ xs.
         AllZip (SpellsElement F.ring) xs.items (comma_parts word.now)) }
@@ -133,7 +133,7 @@ pub fn listed_elements<F: Field>(alloc: Global, word: &str) -> Result<Vec<F>, Fa
     elements_of(alloc, parts.as_slice())
 }
 
-/// An element of an extension, by its coefficients.
+/// An element of an extension, given by its coefficients.
 pub fn extension_of<F: Field, EF: ExtensionField<F>>(
     alloc: Global,
     words: &[&str],
@@ -152,7 +152,7 @@ pub fn extension_of<F: Field, EF: ExtensionField<F>>(
     }
 }
 
-// The parts of a word, which dots separate where there is one, else commas.
+// The parts of a word, separated by dots if it has one, otherwise by commas.
 fn coefficient_parts<'a>(alloc: Global, word: &'a str) -> Result<Vec<&'a str>, Fault>
     ensures parts { IfOk result (λ ps. map (λ p. p.now) ps.items ≡ coefficients_listed word.now) }
     ensures refused { IfErr result (λ e. e ≡ Fault.Memory) }
@@ -164,7 +164,7 @@ fn coefficient_parts<'a>(alloc: Global, word: &'a str) -> Result<Vec<&'a str>, F
     }
 }
 
-/// An element of an extension, by its coefficients, which commas separate, or dots.
+/// An element of an extension, given by its coefficients, separated by dots if the word has one, otherwise by commas.
 pub fn listed_extension<F: Field, EF: ExtensionField<F>>(
     alloc: Global,
     word: &str,
@@ -193,7 +193,7 @@ pub fn value_of(alloc: Global, word: &str) -> Result<Value, Fault>
     }
 }
 
-// The character that a letter behind a backslash stands for.
+// The character that `\` followed by this letter spells.
 fn unescape(letter: char) -> Result<char, Fault>
     ensures { result ≡ ok_or (escaped_letter letter) (Fault.Unreadable Why.NoText) }
 {
@@ -208,8 +208,8 @@ fn unescape(letter: char) -> Result<char, Fault>
     }
 }
 
-/// The text of a word, in which `\s` is a space and `\n` ends a line (and `\r`, `\t`, `\z` for zero, `\\`); `-`: no
-/// text.
+/// The text of a word: `\s` is a space, `\n` and `\r` end a line, `\t` is a tab, `\z` is zero, `\\` is a backslash. The
+/// word `-` is the empty text.
 pub fn text_of(alloc: Global, word: &str) -> Result<String, Fault>
     ensures none { word.now ≡ codes "-" → IfOk result (λ text. string_bytes text ≡ []) }
     ensures text { word.now ≢ codes "-"
@@ -252,7 +252,7 @@ pub fn texts_of(alloc: Global, words: &[&str]) -> Result<Vec<String>, Fault>
     Ok(texts)
 }
 
-/// Adds a text on one line: its ends of lines are `\n`, `\r`, a backslash is doubled.
+/// Adds a text on one line: line ends become `\n` and `\r`, and a backslash is doubled.
 pub fn show_text(shown: &str, text: &mut String) -> Result<(), Fault>
     ensures added { OnOk result (string_bytes text.new
         ≡ string_bytes text.old ++ flat_map shown_letter (chars shown.now)) }
@@ -269,7 +269,7 @@ pub fn show_text(shown: &str, text: &mut String) -> Result<(), Fault>
     Ok(())
 }
 
-// Adds the space that stands before each number but the first.
+// Adds a space, except before the first number.
 fn show_space(place: usize, text: &mut String) -> Result<(), Fault>
     ensures added { OnOk result (string_bytes text.new
         ≡ string_bytes text.old ++ (if place == 0 then [] else codes " ")) }
@@ -281,7 +281,7 @@ fn show_space(place: usize, text: &mut String) -> Result<(), Fault>
     Ok(())
 }
 
-/// Adds the numbers of elements, as `[1 2 3]`.
+/// Adds the numbers of elements, as in `[1 2 3]`.
 pub fn show_elements<F: Number>(elements: &[F], text: &mut String) -> Result<(), Fault>
     ensures added { OnOk result (string_bytes text.new
         ≡ string_bytes text.old ++ elements_text (map F.least elements.now)) }
@@ -297,7 +297,7 @@ pub fn show_elements<F: Number>(elements: &[F], text: &mut String) -> Result<(),
     Ok(())
 }
 
-// What a word spells.
+// The value that a word spells.
 fn spelt_of<S: Spelled>(alloc: Global, word: &str) -> Result<S, Fault>
     ensures spelt { IfOk result (IsSpeltBy S.spells word.now) }
     ensures refused { IfErr result (λ e. (e ≡ Fault.Memory)
@@ -308,7 +308,7 @@ fn spelt_of<S: Spelled>(alloc: Global, word: &str) -> Result<S, Fault>
     Ok(S::from_value(alloc, &value)?)
 }
 
-// How it is spelt.
+// The spelling of a value.
 fn spelling_of<S: Spelled>(alloc: Global, x: &S) -> Result<String, Fault>
     ensures written { IfOk result (λ written.
         IsCompactText (S.spelling x.now) (string_bytes written)) }
@@ -318,7 +318,7 @@ fn spelling_of<S: Spelled>(alloc: Global, x: &S) -> Result<String, Fault>
     Ok(value.to_string(alloc)?)
 }
 
-// Adds it, and how it is spelt where the word spells it otherwise.
+// Adds the debug text of a value, followed by its spelling if that differs from the word.
 fn show_beside<S: Debug>(x: &S, written: &str, word: &str, text: &mut String) -> Result<(), Fault>
     ensures added { OnOk result (IfSome (S.debug_output x.now) (λ shown. string_bytes text.new
         ≡ string_bytes text.old ++ beside_text shown written.now word.now)) }
@@ -332,7 +332,7 @@ fn show_beside<S: Debug>(x: &S, written: &str, word: &str, text: &mut String) ->
     Ok(())
 }
 
-/// Adds what a word spells, and how that is spelt where the word spells it otherwise.
+/// Adds the value that a word spells, followed by its spelling if that differs from the word.
 pub fn show_spelt<S: Spelled + Debug + Drop>(
     alloc: Global,
     word: &str,

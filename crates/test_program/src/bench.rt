@@ -1,4 +1,4 @@
-//! What the lines of a table are tried on.
+//! The state on which the lines of a table are tried.
 
 use crate::checks::show_flat_check;
 use crate::fibonacci::{layout_of, show_recording, show_traced};
@@ -9,7 +9,7 @@ use std::alloc::Global;
 use std::marker::PhantomData;
 use test_lines::{Bench, Fault, Line, Names, Why};
 
-/// The inputs that have names, and the field of all calls but `run`, which names its own.
+/// The named inputs, and the field of all calls except `run`, which names its own.
 #[derive(Drop)]
 pub struct Program<'a, F> {
     inputs: Names<'a, &'a str>,
@@ -17,7 +17,8 @@ pub struct Program<'a, F> {
 }
 
 impl<'a, F: PrimeField64 + 'static> Program<'a, F> {
-    // Adds what a run answers: its words are said, the last two give its input, by name or itself.
+    // Adds the answer of a run. The last two words give the input, by name or as text; the others are the program's
+    // arguments.
     fn answer_run(&self, words: &[&'a str], text: &mut String) -> Result<(), Fault> {
         let alloc = self.inputs.alloc();
         if words.len() < 2 {
@@ -31,7 +32,7 @@ impl<'a, F: PrimeField64 + 'static> Program<'a, F> {
         }
     }
 
-    // Adds what a call answers that makes no input.
+    // Adds the answer of a call that makes no input.
     fn answer_call(&self, words: &[&'a str], text: &mut String) -> Result<(), Fault> {
         let alloc = self.inputs.alloc();
         match words {

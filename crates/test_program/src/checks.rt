@@ -10,7 +10,7 @@ use std::alloc::Global;
 use test_lines::words::value_of;
 use test_lines::{Fault, Why};
 
-// Adds each failure behind a space.
+// Adds each failure, after a space.
 fn show_failures(failures: &[ConstraintFailure], text: &mut String) -> Result<(), Fault> {
     for failure in failures {
         let row = failure.row;
@@ -27,7 +27,7 @@ pub fn show_report(report: &ConstraintReport, text: &mut String) -> Result<(), F
     show_failures(&report.failures, text)
 }
 
-// Adds why a trace doesn't keep the constraints.
+// Adds why the check failed.
 fn show_error(error: CheckError, text: &mut String) -> Result<(), Fault> {
     match error {
         CheckError::BoundaryMismatch { row, index } => {
@@ -42,7 +42,7 @@ fn show_error(error: CheckError, text: &mut String) -> Result<(), Fault> {
     }
 }
 
-/// Adds what a check of a trace answers.
+/// Adds the answer of a check of a trace.
 pub fn show_check<'a, F: Field + 'static, A: Air<DebugConstraintBuilder<'a, F, F>>>(
     alloc: Global,
     call: &str,
@@ -65,7 +65,7 @@ pub fn show_check<'a, F: Field + 'static, A: Air<DebugConstraintBuilder<'a, F, F
     }
 }
 
-// The AIR with this preprocessed table, if there is one.
+// The AIR with this preprocessed trace, if there is one.
 fn with_table<F: Field>(air: FlatAir<F>, table: Option<RowMajorMatrix<F>>) -> FlatAir<F> {
     match table {
         Some(table) => air.with_preprocessed(table),
@@ -73,7 +73,7 @@ fn with_table<F: Field>(air: FlatAir<F>, table: Option<RowMajorMatrix<F>>) -> Fl
     }
 }
 
-/// Adds what a check of an object's trace answers.
+/// Adds the answer of a check of an object's trace.
 pub fn show_flat_check<F: PrimeField64 + 'static>(
     alloc: Global,
     call: &str,

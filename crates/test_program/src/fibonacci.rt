@@ -1,5 +1,5 @@
-//! Fibonacci in each call that records, checks or audits. (Most is over any AIR: each call that names one is dear to
-//! prove.)
+//! Fibonacci in each call that records, checks or audits. (Most functions are over any AIR, since each call that names
+//! one is slow to prove.)
 
 use crate::checks::{show_check, show_report};
 use air_audit::{
@@ -16,7 +16,7 @@ use test_lines::{Fault, Why};
 
 type Recorder<F> = SymbolicAirBuilder<F, F>;
 
-/// A trace, public values, and what is said of a cap.
+/// A trace, public values, and the cap if the words give one.
 #[derive(Drop)]
 struct Traced<F> {
     main: RowMajorMatrix<F>,
@@ -24,7 +24,7 @@ struct Traced<F> {
     cap: Option<Option<usize>>,
 }
 
-// A cap; `-`: there is none.
+// A cap; `-` means none.
 fn cap_of(word: &str) -> Result<Option<usize>, Fault> {
     match word {
         "-" => Ok(None),
@@ -32,7 +32,7 @@ fn cap_of(word: &str) -> Result<Option<usize>, Fault> {
     }
 }
 
-// The width, the values row after row, the public values, and the cap of a check.
+// The width, the values row by row, the public values, and the cap of a check.
 fn traced_of<F: Field>(alloc: Global, words: &[&str]) -> Result<Traced<F>, Fault> {
     let (width, values, public, cap) = match words {
         [width, values, "public", public] => (width, values, public, None),
@@ -51,7 +51,7 @@ fn traced_of<F: Field>(alloc: Global, words: &[&str]) -> Result<Traced<F>, Fault
     })
 }
 
-// Adds the places of recorded constraints.
+// Adds the indices of recorded constraints.
 fn show_layout(layout: &ConstraintLayout, text: &mut String) -> Result<(), Fault> {
     let base = &layout.base_indices;
     let ext = &layout.ext_indices;
@@ -59,7 +59,7 @@ fn show_layout(layout: &ConstraintLayout, text: &mut String) -> Result<(), Fault
     Ok(())
 }
 
-// Adds what was found.
+// Adds the result of an audit.
 fn show_audited<F: Field>(audit: &Audit<F>, text: &mut String) -> Result<(), Fault> {
     show_layout(&audit.layout, text)?;
     let recorded = audit.recorded.base.len();
@@ -68,7 +68,7 @@ fn show_audited<F: Field>(audit: &Audit<F>, text: &mut String) -> Result<(), Fau
     show_report(&audit.report, text)
 }
 
-// Adds what an audit finds.
+// Adds the answer of an audit.
 fn show_audit<
     'a,
     F: Field + 'static,
@@ -78,7 +78,7 @@ fn show_audit<
     show_audited(&audit, text)
 }
 
-// Adds what a check of a trace answers, or an audit.
+// Adds the answer of a check, which has a cap, or of an audit.
 fn answer_traced<
     'a,
     F: Field + 'static,
@@ -107,7 +107,7 @@ fn answer_traced<
     }
 }
 
-/// Adds what a check of a trace answers, which has a cap, or an audit.
+/// Adds the answer of a check, which has a cap, or of an audit.
 pub fn show_traced<F: Field + 'static>(
     alloc: Global,
     call: &str,
@@ -118,7 +118,7 @@ pub fn show_traced<F: Field + 'static>(
     answer_traced(alloc, call, &Fibonacci::new(), &given, text)
 }
 
-// Adds how many constraints of each kind there are.
+// Adds the number of constraints of each kind.
 fn show_recorded<F: Field>(recorded: &Recorded<F, F>, text: &mut String) -> Result<(), Fault> {
     let base = recorded.base.len();
     let ext = recorded.ext.len();
@@ -126,7 +126,7 @@ fn show_recorded<F: Field>(recorded: &Recorded<F, F>, text: &mut String) -> Resu
     Ok(())
 }
 
-// Adds the degree on 4 rows of what is recorded by a layout, by either call.
+// Adds the degree, on 4 rows, of the recording with this layout, by either call.
 fn show_degree<F: Field, A: Air<Recorder<F>>>(
     alloc: Global,
     call: &str,
@@ -147,7 +147,8 @@ fn show_degree<F: Field, A: Air<Recorder<F>>>(
     Ok(())
 }
 
-// Adds what a recording by a layout answers: its constraints, their places, or their degree on 4 rows.
+// Adds the answer for a recording with this layout: the number of constraints, their indices, or their degree on 4
+// rows.
 fn show_by_layout<F: Field, A: Air<Recorder<F>>>(
     alloc: Global,
     call: &str,
@@ -172,7 +173,7 @@ fn show_by_layout<F: Field, A: Air<Recorder<F>>>(
     show_recorded(&recorded, text)
 }
 
-/// Adds what a recording of Fibonacci by a layout answers.
+/// Adds the answer for a recording of Fibonacci with this layout.
 pub fn show_recording<F: Field>(
     alloc: Global,
     call: &str,

@@ -1,4 +1,4 @@
-//! Objects that an AIR and its trace are read from.
+//! Objects from which an AIR and its trace are read.
 
 use air_field::{Field, PrimeField64, RowMajorMatrix};
 use air_program::{FlatInput, flat_input_from};
@@ -20,7 +20,7 @@ fn show_rows<F: Number>(matrix: &RowMajorMatrix<F>, text: &mut String) -> Result
     Ok(())
 }
 
-// Adds the numbers of the roots.
+// Adds the ids of the roots.
 fn show_roots<F: Field>(roots: &[ExprId<BaseLeaf<F>>], text: &mut String) -> Result<(), Fault> {
     text.push_str(" roots")?;
     for root in roots {
@@ -30,7 +30,7 @@ fn show_roots<F: Field>(roots: &[ExprId<BaseLeaf<F>>], text: &mut String) -> Res
     Ok(())
 }
 
-// Adds the labels, if there are some.
+// Adds the labels, if there are any.
 fn show_labels(labels: &[String], text: &mut String) -> Result<(), Fault> {
     if !labels.is_empty() {
         text.push_str(" labels")?;
@@ -41,7 +41,7 @@ fn show_labels(labels: &[String], text: &mut String) -> Result<(), Fault> {
     Ok(())
 }
 
-// Adds the columns, cells, the cap, the weight and the labels.
+// Adds the periodic columns, boundary values, cap, weight and labels.
 fn show_rest<F: Number>(input: &FlatInput<F>, text: &mut String) -> Result<(), Fault> {
     text.push_str(" periodic")?;
     for column in &input.periodic {
@@ -59,7 +59,7 @@ fn show_rest<F: Number>(input: &FlatInput<F>, text: &mut String) -> Result<(), F
     show_labels(&input.labels, text)
 }
 
-// Adds all that an input has, but for its expressions their number and those of the constraints.
+// Adds all members of an input. Its expressions are shown as the number of nodes and the ids of the constraints.
 fn show_whole<F: Number>(input: &FlatInput<F>, text: &mut String) -> Result<(), Fault> {
     show_rows(&input.main, text)?;
     if let Some(table) = &input.preprocessed {
@@ -74,7 +74,7 @@ fn show_whole<F: Number>(input: &FlatInput<F>, text: &mut String) -> Result<(), 
     show_rest(input, text)
 }
 
-/// Adds what the object spells, as `show_whole` does.
+/// Adds the input that the object spells, as `show_whole` does.
 pub fn show_input<F: PrimeField64>(
     alloc: Global,
     object: &str,

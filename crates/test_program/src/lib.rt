@@ -1,5 +1,5 @@
-//! Cases of the program over streams in memory, of the objects that it reads, and of the AIRs that it audits, read from
-//! tables: each line makes one public call, and says what it answers.
+//! Tests of the program over streams in memory, of the objects that it reads, and of the AIRs that it audits. Each line
+//! of a table makes one public call and gives the expected answer.
 #![tactic(auto)]
 
 mod bench;

@@ -7,7 +7,7 @@ use std::str;
 use test_lines::words::{show_text, text_of, texts_of};
 use test_lines::{Fault, Why};
 
-// The bytes of an input. A character is the byte of its number, so that an input can be no text.
+// The bytes of an input. Each character is the byte of its number, so an input need not be valid text.
 fn bytes_of(alloc: Global, input: &str) -> Result<Vec<u8>, Fault> {
     let mut bytes = Vec::new(alloc);
     for letter in text_of(alloc, input)?.chars() {
@@ -19,7 +19,7 @@ fn bytes_of(alloc: Global, input: &str) -> Result<Vec<u8>, Fault> {
     Ok(bytes)
 }
 
-// Adds what a run answers with this status: how much it has not read, if any, and what it wrote.
+// Adds the answer of a run with this status: the number of unread bytes, if any, and the written text.
 fn show_answer(status: u8, left: usize, written: &[u8], text: &mut String) -> Result<(), Fault> {
     if written == b"refused: Memory\n".as_slice() {
         return Err(Fault::Memory);
@@ -34,7 +34,7 @@ fn show_answer(status: u8, left: usize, written: &[u8], text: &mut String) -> Re
     }
 }
 
-// Adds what a run answers that moves so many bytes at a time. One that refuses for want of memory has no answer.
+// Adds the answer of a run that moves at most `most` bytes a call. A run that runs out of memory has no answer.
 fn run_by(
     alloc: Global,
     words: &[String],
@@ -44,14 +44,14 @@ fn run_by(
 ) -> Result<(), Fault> {
     let mut reader = Pieces::new(input, most);
     let mut writer = Kept::new(alloc, most);
-    // (The writer fails for want of memory alone.)
+    // (The writer fails only when out of memory.)
     let Ok(status) = run(alloc, words, &mut reader, &mut writer) else {
         return Err(Fault::Memory);
     };
     show_answer(status, reader.bytes_left(), writer.bytes(), text)
 }
 
-// Adds what a run answers that moves so many bytes at a time, where it isn't this.
+// Adds the answer of a run that moves at most `most` bytes a call, if it differs from `whole`.
 fn show_other(
     alloc: Global,
     words: &[String],
@@ -68,7 +68,7 @@ fn show_other(
     Ok(())
 }
 
-// Adds what the program answers to these bytes, as `show_run` does.
+// Adds the answer of the program to these bytes, as `show_run` does.
 fn run_all(alloc: Global, words: &[String], input: &[u8], text: &mut String) -> Result<(), Fault> {
     run_by(alloc, words, input, 4096, text)?;
     let whole = text.clone()?;
@@ -78,8 +78,8 @@ fn run_all(alloc: Global, words: &[String], input: &[u8], text: &mut String) -> 
     Ok(())
 }
 
-/// Adds what the program answers to an input, called with these words. It is the same for an input and an output in
-/// pieces of any length; where it isn't, the answers in further pieces are added.
+/// Adds the answer of the program to an input, with these arguments. Input and output are also moved in small pieces;
+/// answers that differ are added.
 pub fn show_run(
     alloc: Global,
     words: &[&str],

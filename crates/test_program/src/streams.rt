@@ -5,7 +5,7 @@ ghost use Rattle.std.specs.Prelude.{◌≡◌, false};
 use air_program::{Sink, Source, StreamFault};
 use std::alloc::Global;
 
-/// Gives bytes, at most so many at a call.
+/// Gives bytes, at most `most` a call.
 #[derive(Drop)]
 pub struct Pieces<'a> {
     bytes: &'a [u8],
@@ -43,7 +43,7 @@ impl Source for Pieces<'_> {
     }
 }
 
-/// Keeps bytes, at most so many of a call; it fails for want of memory alone.
+/// Keeps bytes, at most `most` a call. It fails only when out of memory.
 #[derive(Drop)]
 pub struct Kept {
     bytes: Vec<u8>,

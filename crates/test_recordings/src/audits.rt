@@ -12,17 +12,17 @@ use test_lines::words::Number;
 
 pub type RowBuilder<'a, F> = DebugConstraintBuilder<'a, F, F>;
 
-/// What is audited beside the AIR.
+/// The input of an audit besides the AIR.
 #[derive(Drop)]
 pub struct Given<F> {
     pub main: RowMajorMatrix<F>,
     pub public_values: Vec<F>,
     pub transition_weight: usize,
-    /// The cap, where the call takes one.
+    /// The cap, if the call takes one.
     pub cap: Option<Option<usize>>,
 }
 
-// Adds each failure with its row, `none` of none.
+// Adds each failure with its row, or `none`.
 fn show_failures(failures: &[ConstraintFailure], text: &mut String) -> Result<(), Fault> {
     for (place, failure) in failures.iter().enumerate() {
         text.push_str(if place == 0 { "" } else { ", " })?;
@@ -33,7 +33,7 @@ fn show_failures(failures: &[ConstraintFailure], text: &mut String) -> Result<()
     Ok(())
 }
 
-// Adds the degree, the counts and the places, then the failures, then what is recorded.
+// Adds the degree, the counts and the constraint indices, then the failures, then the recorded constraints.
 fn show_audit<F: Number>(audit: &Audit<F>, text: &mut String) -> Result<(), Fault> {
     let degree = audit.degree;
     let rows = audit.report.total_rows;
@@ -49,7 +49,7 @@ fn show_audit<F: Number>(audit: &Audit<F>, text: &mut String) -> Result<(), Faul
     show_base(&audit.recorded, text)
 }
 
-/// Adds what an audit finds, under the cap if there is one.
+/// Adds the answer of an audit, under the cap if there is one.
 pub fn answer_audit<
     'a,
     F: Number + 'static,

@@ -1,4 +1,4 @@
-//! What lines are tried on.
+//! The state on which lines are tried.
 
 use crate::audits::Given;
 use crate::filters::show_when;
@@ -15,8 +15,8 @@ use test_airs::{Airs, TableAir};
 use test_lines::words::{Number, count_of, listed_elements};
 use test_lines::{Bench, Fault, Line, Why};
 
-/// The AIRs that lines have made, over these fields. (The fields are named where the tables are checked and nowhere
-/// else: at given ones each call is dear to prove.)
+/// The AIRs that lines have made, over these fields. (Concrete fields are named only where the tables are checked,
+/// since at concrete fields each call is slow to prove.)
 #[derive(Drop)]
 pub struct AirBench<'a, F: Field, EF> {
     alloc: Global,
@@ -42,7 +42,7 @@ fn values_and_weight<F: Field>(
     Ok((public_values, weight))
 }
 
-// What the words say of an audit.
+// The input of an audit, from its words.
 fn given_of<F: Field>(
     alloc: Global,
     trace: &str,
@@ -60,7 +60,7 @@ fn given_of<F: Field>(
     })
 }
 
-// The same with the cap in words.
+// The input of an audit with a cap, from its words.
 fn given_with_cap<F: Field>(
     alloc: Global,
     trace: &str,
@@ -72,7 +72,7 @@ fn given_with_cap<F: Field>(
     given_of(alloc, trace, public, weight, Some(cap))
 }
 
-// What a call gives to an audit, if it is one.
+// The input of an audit, or `None` for another call.
 fn audited_of<F: Field>(
     alloc: Global,
     call: &str,
@@ -89,7 +89,7 @@ fn audited_of<F: Field>(
     }
 }
 
-// Adds what an audit of an AIR finds.
+// Adds the answer of an audit of an AIR.
 fn show_audit_of<F: Number + 'static>(
     alloc: Global,
     air: &TableAir<F>,
@@ -108,12 +108,12 @@ fn show_audit_of<F: Number + 'static>(
     Ok(())
 }
 
-// The AIR's own layout, changed as the word says.
+// The AIR's own layout, with the changes that the word gives.
 fn layout_by<F: Field>(air: &TableAir<F>, word: &str) -> Result<AirLayout, Fault> {
     layout_of(AirLayout::from_air::<F, TableAir<F>>(air), word)
 }
 
-// Adds whether the layout suits the AIR, where the call has no more words.
+// Adds whether the layout suits the AIR. More words are an error.
 fn show_validation<F: Field>(
     air: &TableAir<F>,
     layout: AirLayout,
@@ -128,7 +128,7 @@ fn show_validation<F: Field>(
     Ok(())
 }
 
-// Adds what a call answers that records an AIR over the base field, if it is one.
+// Adds the answer of a call that records an AIR over the base field. Returns whether this is such a call.
 fn recorded_over_base<F: Number + 'static>(
     alloc: Global,
     air: &TableAir<F>,
@@ -141,7 +141,7 @@ fn recorded_over_base<F: Number + 'static>(
     by_base(alloc, air, &no_audit, layout, call, words, text)
 }
 
-// Adds what a call answers that records an AIR with an extension.
+// Adds the answer of a call that records an AIR with an extension.
 fn recorded_with_extension<F: Number + 'static, EF: ExtensionField<F> + 'static>(
     alloc: Global,
     air: &TableAir<F>,
@@ -154,7 +154,7 @@ fn recorded_with_extension<F: Number + 'static, EF: ExtensionField<F> + 'static>
     by_extension::<F, EF>(alloc, air, &no_row, layout, call, words, text)
 }
 
-// Adds what a call answers that records an AIR, over the base field or with an extension.
+// Adds the answer of a call that records an AIR, over the base field or with an extension.
 fn show_recording_call<F: Number + 'static, EF: ExtensionField<F> + 'static>(
     alloc: Global,
     air: &TableAir<F>,
@@ -169,7 +169,7 @@ fn show_recording_call<F: Number + 'static, EF: ExtensionField<F> + 'static>(
     recorded_with_extension::<F, EF>(alloc, air, layout, call, words, text)
 }
 
-// Adds what an AIR's values at the row of the words are folded to.
+// Adds the fold of an AIR's values at the row given by the words.
 fn show_fold<F: Number + 'static, EF: ExtensionField<F> + 'static>(
     alloc: Global,
     air: &TableAir<F>,
@@ -181,7 +181,7 @@ fn show_fold<F: Number + 'static, EF: ExtensionField<F> + 'static>(
     by_extension::<F, EF>(alloc, air, &row, layout, "fold_air", words, text)
 }
 
-// Adds what is recorded where an AIR's constraints are asserted under the number of the word.
+// Adds the recording of an AIR's constraints under the constant condition given by the word.
 fn recorded_when<F: Number, EF: ExtensionField<F>>(
     alloc: Global,
     air: &TableAir<F>,
@@ -195,7 +195,7 @@ fn recorded_when<F: Number, EF: ExtensionField<F>>(
     show_when::<F, EF>(alloc, air, layout, *condition, text)
 }
 
-// Adds what a call answers of an AIR by a layout.
+// Adds the answer of a call on an AIR and a layout.
 fn answer_by<F: Number + 'static, EF: ExtensionField<F> + 'static>(
     alloc: Global,
     air: &TableAir<F>,
@@ -213,7 +213,7 @@ fn answer_by<F: Number + 'static, EF: ExtensionField<F> + 'static>(
     }
 }
 
-// The same of a layout in words.
+// Adds the answer of a call on an AIR, whose layout is the first word.
 fn answer_by_words<F: Number + 'static, EF: ExtensionField<F> + 'static>(
     alloc: Global,
     air: &TableAir<F>,
@@ -229,7 +229,7 @@ fn answer_by_words<F: Number + 'static, EF: ExtensionField<F> + 'static>(
     }
 }
 
-// Adds what a call answers of an AIR.
+// Adds the answer of a call on an AIR.
 fn answer_of<F: Number + 'static, EF: ExtensionField<F> + 'static>(
     alloc: Global,
     air: &TableAir<F>,
@@ -269,7 +269,7 @@ impl<'a, F: Number + 'static, EF: ExtensionField<F> + 'static> Bench<'a> for Air
     }
 }
 
-// Adds what a call answers that needs no AIR.
+// Adds the answer of a call that needs no AIR.
 fn answer_alone<F: Number, EF: ExtensionField<F>>(
     alloc: Global,
     call: &str,

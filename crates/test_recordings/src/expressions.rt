@@ -11,10 +11,10 @@ use std::fmt::Debug;
 use test_lines::Fault;
 use test_lines::words::{Number, show_elements};
 
-/// How deep a tree is shown.
+/// The depth to which a tree is shown.
 const DEPTH: usize = 8;
 
-/// A variable that has a text, as `main[0]`; of the next row it is `next_main[0]`.
+/// A variable that has a text, such as `main[0]`, or `next_main[0]` in the next row.
 pub trait ShownVariable: Copy {
     /// Adds the variable.
     fn show(self, text: &mut String) -> Result<(), Fault>;
@@ -70,8 +70,8 @@ impl<F: Field, EF: ExtensionField<F>> ShownVariable for SymbolicVariableExt<F, E
 
 /// A leaf that has a text.
 pub trait ShownLeaf: SymLeaf {
-    /// Adds the leaf. What it names of the pool under its own is shown to this depth, an operation among operands in
-    /// brackets.
+    /// Adds the leaf. An expression of the base pool in it is shown to this depth; `inside` says whether an operation
+    /// gets brackets.
     fn show(
         &self,
         base: &Self::Base,
@@ -122,7 +122,7 @@ impl<F: Number, EF: ExtensionField<F>> ShownLeaf for ExtLeaf<F, EF> {
     }
 }
 
-// Adds an expression to this depth, an operation among operands in brackets.
+// Adds an expression to this depth. Operations that are operands are in brackets.
 fn show_expression<A: ShownLeaf>(
     pool: &ExprPool<A>,
     id: ExprId<A>,
@@ -155,7 +155,7 @@ fn show_expression<A: ShownLeaf>(
     Ok(())
 }
 
-// Adds expressions with the degrees that their nodes state, `none` of none.
+// Adds expressions with the degrees that their nodes state, or `none`.
 fn show_expressions<A: ShownLeaf>(
     pool: &ExprPool<A>,
     numbers: &[ExprId<A>],
@@ -185,8 +185,8 @@ pub fn show_base_expression<F: Number>(
     show_expression(pool, id, depth, false, text)
 }
 
-/// Adds base expressions with their degrees. (That their leaves are leaves of a pool, and shown, is dear to prove: it
-/// stands here.)
+/// Adds base expressions with their degrees. (That their leaves are pool leaves with a text is slow to prove, so this
+/// is a function of its own.)
 pub fn show_base_expressions<F: Number>(
     pool: &ExprPool<BaseLeaf<F>>,
     numbers: &[ExprId<BaseLeaf<F>>],
@@ -195,7 +195,7 @@ pub fn show_base_expressions<F: Number>(
     show_expressions(pool, numbers, text)
 }
 
-/// The same of expressions over the extension.
+/// Adds expressions over the extension with their degrees.
 pub fn show_ext_expressions<F: Number, EF: ExtensionField<F>>(
     pool: &ExprPool<ExtLeaf<F, EF>>,
     numbers: &[ExprId<ExtLeaf<F, EF>>],

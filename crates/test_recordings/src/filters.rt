@@ -1,4 +1,4 @@
-//! What is recorded of an AIR whose constraints are asserted on a filter: the filter hands on all that they read.
+//! Recordings of an AIR whose constraints are asserted on a filter, which gives access to all that they read.
 ghost use Rattle.std.specs.Prelude.{OnOk};
 
 use crate::recordings::{Recorder, show_both};
@@ -11,7 +11,7 @@ use test_airs::TableAir;
 use test_lines::Fault;
 use test_lines::words::{Number, element_of};
 
-// Asserts an AIR's constraints where a condition holds.
+// Asserts an AIR's constraints under a condition.
 fn eval_under<AB: PermutationAirBuilder + NamedExtensionBuilder>(
     builder: &mut AB,
     air: &TableAir<AB::F>,
@@ -27,7 +27,7 @@ where
     air.eval(&mut filter)
 }
 
-// The same of a constant, after which the builder is ready for more.
+// Asserts an AIR's constraints under a constant condition. Afterwards the builder is ready.
 fn eval_when<AB: PermutationAirBuilder + NamedExtensionBuilder>(
     builder: &mut AB,
     air: &TableAir<AB::F>,
@@ -42,7 +42,7 @@ where
     eval_under(builder, air, condition)
 }
 
-// What is recorded so.
+// The recording of an AIR's constraints under a constant condition.
 fn recorded_when<F: Field, EF: ExtensionField<F>>(
     alloc: Global,
     air: &TableAir<F>,
@@ -54,7 +54,7 @@ fn recorded_when<F: Field, EF: ExtensionField<F>>(
     Ok(finish_recording(builder))
 }
 
-/// Adds what is recorded of an AIR's constraints that are asserted where the number isn't zero.
+/// Adds the recording of an AIR's constraints under a constant condition.
 pub fn show_when<F: Number, EF: ExtensionField<F>>(
     alloc: Global,
     air: &TableAir<F>,

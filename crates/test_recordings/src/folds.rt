@@ -1,4 +1,4 @@
-//! Folds of an AIR's values at one row, beside its recording, and how few elements hide a value.
+//! Folds of an AIR's values at one row, beside its recording; and the number of alphas that hide values.
 ghost use Rattle.std.specs.Prelude.{◌≡◌, IsTrue, IfOk};
 ghost use Rattle.air_folder.specs.FolderRow.{accumulator_of};
 ghost use Rattle.air_folder.specs.Hiding.{IsBelowAll, IsIncreasing};
@@ -15,7 +15,7 @@ use test_lines::{Fault, Why};
 
 pub type Folder<'a, F, EF> = ConstraintFolder<'a, F, EF>;
 
-/// What a folder is made of.
+/// The values from which a folder is made.
 #[derive(Drop)]
 pub struct Row<EF> {
     current: Vec<EF>,
@@ -30,7 +30,7 @@ pub struct Row<EF> {
 }
 
 impl<EF> Row<EF> {
-    // A row of which nothing is said.
+    // A row without values.
     fn new(alloc: Global) -> Self {
         Row {
             current: Vec::new(alloc),
@@ -46,7 +46,7 @@ impl<EF> Row<EF> {
     }
 }
 
-// The element of a word: a number, or the coefficients with commas between.
+// The element of a word: a number, or coefficients separated by commas.
 fn extension_word<F: Field, EF: ExtensionField<F>>(alloc: Global, word: &str) -> Result<EF, Fault> {
     let all: Vec<F> = listed_elements(alloc, word)?;
     match all.as_slice() {
@@ -56,7 +56,7 @@ fn extension_word<F: Field, EF: ExtensionField<F>>(alloc: Global, word: &str) ->
     }
 }
 
-// Adds the elements of a list, which `/` separates.
+// Adds the elements of a list, separated by `/`.
 fn add_list<F: Field, EF: ExtensionField<F>>(
     alloc: Global,
     list: &str,
@@ -68,7 +68,7 @@ fn add_list<F: Field, EF: ExtensionField<F>>(
     Ok(())
 }
 
-// Adds the elements of the word that begins with the key, if there is such a word.
+// Adds the elements of the word that begins with the key, if there is one.
 fn add_given<F: Field, EF: ExtensionField<F>>(
     alloc: Global,
     words: &[&str],
@@ -85,7 +85,7 @@ fn add_given<F: Field, EF: ExtensionField<F>>(
     Ok(())
 }
 
-// Adds what the words say of the rows of traces.
+// Adds the rows of the traces that the words give.
 fn add_traces<F: Field, EF: ExtensionField<F>>(
     alloc: Global,
     words: &[&str],
@@ -97,7 +97,7 @@ fn add_traces<F: Field, EF: ExtensionField<F>>(
     add_given::<F, EF>(alloc, words, "next_permutation", &mut row.next_permutation)
 }
 
-// The same of what stands beside them.
+// Adds the other values that the words give.
 fn add_values<F: Field, EF: ExtensionField<F>>(
     alloc: Global,
     words: &[&str],
@@ -110,7 +110,7 @@ fn add_values<F: Field, EF: ExtensionField<F>>(
     add_given::<F, EF>(alloc, words, "alpha", &mut row.alpha)
 }
 
-/// What the words say of a folder. (A list is filled in its place: what is owned is dropped behind each `?`.)
+/// The values of a folder, from the words. (Lists are filled in place, since each `?` also drops all owned values.)
 pub fn row_of<F: Field, EF: ExtensionField<F>>(
     alloc: Global,
     words: &[&str],
@@ -161,7 +161,7 @@ fn folder_of<'a, F: Field + 'static, EF: ExtensionField<F> + 'static>(
     ))
 }
 
-// Adds what is folded, and the places of the constraints.
+// Adds the fold, and the numbers and indices of the constraints.
 fn show_folded<F: Number, EF: ExtensionField<F>>(
     folded: &Folded<F, EF>,
     text: &mut String,
@@ -174,7 +174,7 @@ fn show_folded<F: Number, EF: ExtensionField<F>>(
     Ok(())
 }
 
-/// Adds what is folded of an AIR at the row, and the places of its constraints.
+/// Adds the fold of an AIR at the row, and the numbers and indices of its constraints.
 pub fn answer_fold<
     'a,
     F: Number + 'static,
@@ -192,7 +192,7 @@ pub fn answer_fold<
     show_folded(&folded, text)
 }
 
-// Whether a number is below all these.
+// Whether a number is below all of these.
 fn is_below_all(x: BabyBear, all: &[BabyBear]) -> bool
     ensures { IsTrue result → IsBelowAll ⟦<BabyBear as Ord>⟧.cmp x all.now }
 {
@@ -202,7 +202,7 @@ fn is_below_all(x: BabyBear, all: &[BabyBear]) -> bool
     }
 }
 
-// Whether each number is below all that follow.
+// Whether each number is below all that follow it.
 fn is_increasing(all: &[BabyBear]) -> bool
     ensures { IsTrue result → IsIncreasing ⟦<BabyBear as Ord>⟧.cmp all.now }
 {
@@ -212,7 +212,7 @@ fn is_increasing(all: &[BabyBear]) -> bool
     }
 }
 
-// Adds how many of the alphas, which have to increase, fold the values to zero.
+// Adds the number of alphas that fold the values to zero. The alphas must increase.
 fn show_hiding(values: &[BabyBear], alphas: &[BabyBear], text: &mut String) -> Result<(), Fault> {
     if !is_increasing(alphas) {
         return Err(Fault::Unreadable(Why::OtherShape));
@@ -222,7 +222,7 @@ fn show_hiding(values: &[BabyBear], alphas: &[BabyBear], text: &mut String) -> R
     Ok(())
 }
 
-/// The same of the values and the alphas in words.
+/// Adds the number of alphas in a word that fold the values in a word to zero.
 pub fn answer_hiding(alloc: Global, words: &[&str], text: &mut String) -> Result<(), Fault> {
     let [values, alphas] = words else {
         return Err(Fault::Unreadable(Why::NoSuchCall));

@@ -1,5 +1,5 @@
-//! Calls on the AIRs of tables. Each is a function over any fields, and is called at the fields of the tables: where a
-//! call itself names both fields, comparing what the builder's traits ask with what it has passes the checker's limit.
+//! Calls on the AIRs of tables. Each is a generic function, called at the fields of the tables. In a function that
+//! itself names both fields, the comparison of the builder's trait bounds exceeds the checker's limit.
 
 use crate::audits::{Given, RowBuilder, answer_audit};
 use crate::folds::{Folder, Row, answer_fold};
@@ -12,8 +12,8 @@ use test_airs::TableAir;
 use test_lines::Fault;
 use test_lines::words::Number;
 
-// Adds what an audit of what is given finds; where nothing is, what a call answers that records over the base field, if
-// it is one.
+// Adds the answer of an audit, if its input is given; otherwise that of a call that records over the base field.
+// Returns whether the call is one of these.
 fn over_base<'a, F: Number + 'static, A: BaseAir<F> + Air<Recorder<F, F>> + Air<RowBuilder<'a, F>>>(
     alloc: Global,
     air: &'a A,
@@ -32,7 +32,7 @@ fn over_base<'a, F: Number + 'static, A: BaseAir<F> + Air<Recorder<F, F>> + Air<
     }
 }
 
-/// The same of a table's AIR.
+/// Calls `over_base` for a table's AIR.
 pub fn by_base<F: Number + 'static>(
     alloc: Global,
     air: &TableAir<F>,
@@ -45,7 +45,7 @@ pub fn by_base<F: Number + 'static>(
     over_base(alloc, air, given, layout, call, words, text)
 }
 
-// Adds what the AIR's values at a row are folded to; without a row, what a call answers that records with an extension.
+// Adds the fold of the AIR's values, if a row is given; otherwise the answer of a call that records with an extension.
 fn over_extension<
     'a,
     F: Number + 'static,
@@ -66,7 +66,7 @@ fn over_extension<
     }
 }
 
-/// The same of a table's AIR.
+/// Calls `over_extension` for a table's AIR.
 pub fn by_extension<F: Number + 'static, EF: ExtensionField<F> + 'static>(
     alloc: Global,
     air: &TableAir<F>,

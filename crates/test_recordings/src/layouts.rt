@@ -1,4 +1,4 @@
-//! Layouts of AIRs and of constraints, by themselves.
+//! Calls on layouts of AIRs and of constraints.
 
 use air_field::{ExtensionField, Field};
 use air_recording::{AirLayout, ConstraintLayout, constraint_degree_from_poly_degree};
@@ -23,7 +23,7 @@ fn set(layout: &mut AirLayout, name: &str, count: usize) -> Result<(), Fault> {
     Ok(())
 }
 
-/// The layout of a word such as `main:2,public:1`, in which what isn't named is as in `start`; `own`: `start`.
+/// The layout of a word such as `main:2,public:1`. Counts without a name are those of `start`; `own` is `start` itself.
 pub fn layout_of(start: AirLayout, word: &str) -> Result<AirLayout, Fault> {
     let mut layout = start;
     if word == "own" {
@@ -38,7 +38,7 @@ pub fn layout_of(start: AirLayout, word: &str) -> Result<AirLayout, Fault> {
     Ok(layout)
 }
 
-// The layout of the places of each kind.
+// The layout of these constraint indices of each kind.
 fn places_of(alloc: Global, base: &str, ext: &str) -> Result<ConstraintLayout, Fault> {
     let base_indices = counts_of(alloc, base)?;
     let ext_indices = counts_of(alloc, ext)?;
@@ -48,7 +48,7 @@ fn places_of(alloc: Global, base: &str, ext: &str) -> Result<ConstraintLayout, F
     })
 }
 
-/// Adds the coefficients of elements, as `[[1 0 0 0] [0 1 0 0]]`.
+/// Adds the coefficients of elements, as in `[[1 0 0 0] [0 1 0 0]]`.
 pub fn show_extensions<F: Number, EF: ExtensionField<F>>(
     elements: &[EF],
     text: &mut String,
@@ -64,7 +64,7 @@ pub fn show_extensions<F: Number, EF: ExtensionField<F>>(
     Ok(())
 }
 
-// Adds lists of elements, as `[[1 2] [3 4]]`.
+// Adds lists of elements, as in `[[1 2] [3 4]]`.
 fn show_lists<F: Number>(lists: &[Vec<F>], text: &mut String) -> Result<(), Fault> {
     text.push_str("[")?;
     for (place, list) in lists.iter().enumerate() {
@@ -77,7 +77,7 @@ fn show_lists<F: Number>(lists: &[Vec<F>], text: &mut String) -> Result<(), Faul
     Ok(())
 }
 
-// Adds the coordinates of the base weights, a list for each element of the basis, and the whole weights.
+// Adds the coordinates of the base weights, one list for each basis element, and then the extension weights.
 fn show_weights<F: Number, EF: ExtensionField<F>>(
     coordinates: &[Vec<F>],
     powers: &[EF],
@@ -88,7 +88,7 @@ fn show_weights<F: Number, EF: ExtensionField<F>>(
     show_extensions::<F, EF>(powers, text)
 }
 
-// The same of what an alpha decomposes to.
+// Adds the weights into which an alpha is decomposed.
 fn show_decomposed<F: Number, EF: ExtensionField<F>>(
     alloc: Global,
     layout: &ConstraintLayout,
@@ -100,7 +100,7 @@ fn show_decomposed<F: Number, EF: ExtensionField<F>>(
     show_weights::<F, EF>(&coordinates, &powers, text)
 }
 
-// The same of the places in words, and an alpha of either field.
+// Adds the weights into which an alpha of either field is decomposed, for the constraint indices in words.
 fn decompose_alpha<F: Number, EF: ExtensionField<F>>(
     alloc: Global,
     words: &[&str],
@@ -116,7 +116,7 @@ fn decompose_alpha<F: Number, EF: ExtensionField<F>>(
     }
 }
 
-// Adds how many places there are.
+// Adds the number of constraint indices.
 fn show_total(alloc: Global, words: &[&str], text: &mut String) -> Result<(), Fault> {
     let [base, ext] = words else {
         return Err(Fault::Unreadable(Why::NoSuchCall));
@@ -126,7 +126,7 @@ fn show_total(alloc: Global, words: &[&str], text: &mut String) -> Result<(), Fa
     Ok(())
 }
 
-// The sum of weight times value, each value of the constraint at the index beside the weight.
+// The sum of weight times value, where the value is that of the constraint at the index beside the weight.
 fn weigh<F: Field>(weights: &[F], places: &[usize], values: &[F]) -> Result<F, Fault> {
     let mut sum = F::ZERO;
     for (weight, place) in weights.iter().zip(places) {
@@ -138,7 +138,7 @@ fn weigh<F: Field>(weights: &[F], places: &[usize], values: &[F]) -> Result<F, F
     Ok(sum)
 }
 
-// The recombination of values by the coordinates of the base weights, and the whole weights.
+// The recombination of values by the coordinates of the base weights and the extension weights.
 fn recombination<F: Field>(
     layout: &ConstraintLayout,
     coordinates: &[Vec<F>],
@@ -153,7 +153,7 @@ fn recombination<F: Field>(
     Ok(sum)
 }
 
-// The same by what an alpha of the base field decomposes to.
+// The recombination of values for an alpha of the base field.
 fn recombined_by<F: Field>(
     alloc: Global,
     layout: &ConstraintLayout,
@@ -165,7 +165,7 @@ fn recombined_by<F: Field>(
     recombination(layout, &coordinates, &powers, values)
 }
 
-// The same of the values in words.
+// The recombination of the values in words.
 fn recombination_of<F: Field>(
     alloc: Global,
     layout: &ConstraintLayout,
@@ -176,7 +176,7 @@ fn recombination_of<F: Field>(
     recombined_by(alloc, layout, alpha, &values)
 }
 
-// Adds the number of that.
+// Adds the recombination as a number.
 fn show_recombined<F: Number>(
     alloc: Global,
     layout: &ConstraintLayout,
@@ -190,7 +190,7 @@ fn show_recombined<F: Number>(
     Ok(())
 }
 
-// The same of the places in words.
+// Adds the recombination for the constraint indices and the values in words.
 fn recombine<F: Number>(alloc: Global, words: &[&str], text: &mut String) -> Result<(), Fault> {
     let [base, ext, alpha, values @ ..] = words else {
         return Err(Fault::Unreadable(Why::NoSuchCall));
@@ -199,7 +199,7 @@ fn recombine<F: Number>(alloc: Global, words: &[&str], text: &mut String) -> Res
     show_recombined::<F>(alloc, &layout, *alpha, values, text)
 }
 
-// Adds the degree that the degree of a polynomial over so many rows stands for.
+// Adds the constraint degree for a polynomial degree over a number of rows.
 fn show_degree(words: &[&str], text: &mut String) -> Result<(), Fault> {
     let [degree, rows] = words else {
         return Err(Fault::Unreadable(Why::NoSuchCall));
@@ -210,7 +210,7 @@ fn show_degree(words: &[&str], text: &mut String) -> Result<(), Fault> {
     Ok(())
 }
 
-// Adds what a JSON value spells.
+// Adds the value that a JSON word spells.
 fn show_spelling(alloc: Global, words: &[&str], text: &mut String) -> Result<(), Fault> {
     let [name, word] = words else {
         return Err(Fault::Unreadable(Why::NoSuchCall));
@@ -222,7 +222,7 @@ fn show_spelling(alloc: Global, words: &[&str], text: &mut String) -> Result<(),
     }
 }
 
-/// Adds a layout, where the call has no more words.
+/// Adds a layout. More words are an error.
 pub fn show_air_layout(layout: AirLayout, words: &[&str], text: &mut String) -> Result<(), Fault> {
     if !words.is_empty() {
         return Err(Fault::Unreadable(Why::NoSuchCall));
@@ -231,7 +231,7 @@ pub fn show_air_layout(layout: AirLayout, words: &[&str], text: &mut String) -> 
     Ok(())
 }
 
-/// Adds what a call on a layout answers.
+/// Adds the answer of a call on a layout.
 pub fn answer_layout<F: Number, EF: ExtensionField<F>>(
     alloc: Global,
     call: &str,

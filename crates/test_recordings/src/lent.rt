@@ -1,4 +1,4 @@
-//! The variables and selectors that the symbolic builder lends, and what it records of assertions over the extension.
+//! The variables and selectors that the symbolic builder gives, and its recordings of assertions over the extension.
 ghost use Rattle.std.specs.Prelude.{[]};
 
 use crate::expressions::{ShownVariable, show_base_expression, show_ext_expressions};
@@ -16,7 +16,7 @@ use std::alloc::Global;
 use test_lines::words::{Number, count_of, element_of, extension_of};
 use test_lines::{Fault, Why};
 
-// The element of a window's current or next row.
+// The element of a column in a window's current or next row.
 fn in_row<T: Copy, W: WindowAccess<T>>(
     window: &W,
     row: &str,
@@ -31,12 +31,12 @@ fn in_row<T: Copy, W: WindowAccess<T>>(
     }
 }
 
-// The same of a window of the symbolic builder, and a column in words.
+// The element of a column in a row of a window, with row and column as words.
 fn at<T: Copy>(window: &TwoRows<T>, row: &str, column: &str) -> Result<Option<T>, Fault> {
     in_row(window, row, count_of(column)?)
 }
 
-// Adds a variable, or that there is none.
+// Adds a variable, or `None`.
 fn show_found<V: ShownVariable>(found: Option<V>, text: &mut String) -> Result<(), Fault> {
     match found {
         Some(v) => v.show(text),
@@ -55,7 +55,7 @@ fn show_variables<V: ShownVariable>(all: &[V], text: &mut String) -> Result<(), 
     Ok(())
 }
 
-// The selectors, by the calls that lend them.
+// The selectors, by the calls that return them.
 #[derive(Drop)]
 enum Selector {
     FirstRow,
@@ -65,7 +65,7 @@ enum Selector {
     TransitionWindow,
 }
 
-// The selector of a window of this size.
+// The selector for a window of this size.
 fn window_selector(size: &str) -> Result<Selector, Fault> {
     match size {
         "1" => Ok(Selector::NarrowWindow),
@@ -74,7 +74,7 @@ fn window_selector(size: &str) -> Result<Selector, Fault> {
     }
 }
 
-// The selector of a row.
+// The selector for a row.
 fn row_selector(call: &str) -> Result<Selector, Fault> {
     match call {
         "is_first_row" => Ok(Selector::FirstRow),
@@ -92,7 +92,7 @@ fn selector_of(call: &str, words: &[&str]) -> Result<Selector, Fault> {
     }
 }
 
-// The selector that a builder lends.
+// The selector that a builder returns.
 fn selector_in<AB: AirBuilder>(builder: &mut AB, selector: Selector) -> Result<AB::Expr, AirError>
     requires { AB.ready builder.old }
     ensures { AB.grew builder.old builder.new [] }
@@ -106,7 +106,7 @@ fn selector_in<AB: AirBuilder>(builder: &mut AB, selector: Selector) -> Result<A
     }
 }
 
-// The same, and the builder is ready.
+// The selector that a builder returns; afterwards the builder is ready.
 fn lent_selector<AB: AirBuilder>(builder: &mut AB, selector: Selector) -> Result<AB::Expr, AirError>
     requires { AB.ready builder.old }
     ensures { AB.ready builder.new }
@@ -123,7 +123,7 @@ fn assert_named<AB: NamedExtensionBuilder>(builder: &mut AB, x: AB::EF) -> Resul
     builder.assert_zero_ext_named(x, "name")
 }
 
-// Asserts where a condition holds that `x` over the extension is zero.
+// Asserts under a condition that `x` over the extension is zero.
 fn assert_zero_ext_under<AB: ExtensionBuilder>(
     builder: &mut AB,
     condition: AB::Expr,
@@ -138,7 +138,7 @@ fn assert_zero_ext_under<AB: ExtensionBuilder>(
     filter.assert_zero_ext(x)
 }
 
-// Asserts where a constant holds that one of the extension is zero.
+// Asserts under a constant condition that a constant of the extension is zero.
 fn assert_constant_ext_under<AB: ExtensionBuilder>(
     builder: &mut AB,
     condition: AB::F,
@@ -152,7 +152,7 @@ fn assert_constant_ext_under<AB: ExtensionBuilder>(
     assert_zero_ext_under(builder, condition, x)
 }
 
-// The variable over the base field of a window that a builder lends, or that it lends without one.
+// The base variable at a row and a column of a window, or from `main_variable`.
 fn base_variable<F: Field, EF: ExtensionField<F>>(
     builder: &Recorder<F, EF>,
     window: &str,
@@ -169,7 +169,7 @@ fn base_variable<F: Field, EF: ExtensionField<F>>(
     }
 }
 
-// The same over the extension.
+// The extension variable at a row and a column of the permutation window, or from `permutation_variable`.
 fn ext_variable<F: Field, EF: ExtensionField<F>>(
     builder: &Recorder<F, EF>,
     window: &str,
@@ -184,7 +184,7 @@ fn ext_variable<F: Field, EF: ExtensionField<F>>(
     Ok(builder.permutation_variable(row, column)?)
 }
 
-// Adds either.
+// Adds the variable at a row and a column, over either field.
 fn show_in_window<F: Field, EF: ExtensionField<F>>(
     builder: &Recorder<F, EF>,
     window: &str,
@@ -203,7 +203,7 @@ fn show_in_window<F: Field, EF: ExtensionField<F>>(
     }
 }
 
-// The variables over the base field of a list that a builder lends.
+// A builder's list of variables over the base field, by name.
 fn base_list<'a, F: Field, EF: ExtensionField<F>>(
     builder: &'a Recorder<F, EF>,
     list: &str,
@@ -215,7 +215,7 @@ fn base_list<'a, F: Field, EF: ExtensionField<F>>(
     }
 }
 
-// The same over the extension.
+// A builder's list of variables over the extension, by name.
 fn ext_list<'a, F: Field, EF: ExtensionField<F>>(
     builder: &'a Recorder<F, EF>,
     list: &str,
@@ -227,7 +227,7 @@ fn ext_list<'a, F: Field, EF: ExtensionField<F>>(
     }
 }
 
-// Adds either, if the word names one.
+// Adds the list of variables that the word names. Returns whether there is such a list.
 fn show_list<F: Field, EF: ExtensionField<F>>(
     builder: &Recorder<F, EF>,
     list: &str,
@@ -241,17 +241,17 @@ fn show_list<F: Field, EF: ExtensionField<F>>(
     Ok(true)
 }
 
-// What is asked of a builder that it may change.
+// A request to a builder that needs a mutable borrow.
 #[derive(Drop)]
 enum Asked<F, EF> {
     Selector(Selector),
-    /// To assert under a name that the element is zero.
+    /// Assert under a name that the element is zero.
     Named(EF),
-    /// To assert where the constant holds that the element is zero.
+    /// Assert under the constant condition that the element is zero.
     Under(F, EF),
 }
 
-// To assert where a constant holds, in words.
+// The request to assert under a constant condition, from words.
 fn asked_under<F: Field, EF: ExtensionField<F>>(
     alloc: Global,
     words: &[&str],
@@ -277,7 +277,7 @@ fn asked_of<F: Field, EF: ExtensionField<F>>(
     }
 }
 
-// Does that, and gives the selector, if one is asked for.
+// Carries out the request. Returns the selector, if one is requested.
 fn do_asked<AB: NamedExtensionBuilder>(
     builder: &mut AB,
     asked: Asked<AB::F, AB::EF>,
@@ -298,7 +298,8 @@ fn do_asked<AB: NamedExtensionBuilder>(
     }
 }
 
-// The same on the symbolic builder. (That it is one of every kind is dear to prove, so it stands by itself.)
+// Carries out the request on the symbolic builder. (That it implements all builder traits is slow to prove, so this is
+// a function of its own.)
 fn done_by<F: Field, EF: ExtensionField<F>>(
     builder: &mut Recorder<F, EF>,
     asked: Asked<F, EF>,
@@ -309,7 +310,7 @@ fn done_by<F: Field, EF: ExtensionField<F>>(
     do_asked(builder, asked)
 }
 
-// Adds a selector that the builder lends, or what it has recorded over the extension.
+// Adds the selector that the builder returns, or its recorded extension constraints.
 fn show_done<F: Number, EF: ExtensionField<F>>(
     alloc: Global,
     builder: &mut Recorder<F, EF>,
@@ -328,7 +329,7 @@ fn show_done<F: Number, EF: ExtensionField<F>>(
     }
 }
 
-// Adds what the words ask of a builder.
+// Adds the builder's answer to the request in words.
 fn show_asked<F: Number, EF: ExtensionField<F>>(
     alloc: Global,
     builder: &mut Recorder<F, EF>,
@@ -345,7 +346,7 @@ fn show_asked<F: Number, EF: ExtensionField<F>>(
     }
 }
 
-/// Adds what a call on a builder of a layout answers.
+/// Adds the answer of a call on a builder with a layout.
 pub fn answer_lent<F: Number, EF: ExtensionField<F>>(
     alloc: Global,
     words: &[&str],

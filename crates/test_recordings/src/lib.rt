@@ -1,5 +1,5 @@
-//! Cases of recordings, layouts, inferred degrees, audits and folds, read from tables: each line makes one public call,
-//! and says what it answers.
+//! Tests of recordings, layouts, inferred degrees, audits and folds. Each line of a table makes one public call and
+//! gives the expected answer.
 #![tactic(auto)]
 
 mod audits;

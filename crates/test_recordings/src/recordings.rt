@@ -1,4 +1,4 @@
-//! Recordings of an AIR, and the degrees that are inferred of them.
+//! Recordings of an AIR, and their inferred degrees.
 ghost use Rattle.std.specs.Prelude.{◌≡◌};
 ghost use Rattle.air_symbolic.specs.Pools.{FitsBase};
 
@@ -34,7 +34,7 @@ pub fn show_base<F: Number, EF: ExtensionField<F>>(
     show_base_expressions(base_pool(recorded), &recorded.base, text)
 }
 
-// Adds them, and how many others there are, of which there are to be none.
+// Adds the base constraints, and the number of extension constraints if there are any.
 fn show_base_alone<F: Number>(recorded: &Recorded<F, F>, text: &mut String) -> Result<(), Fault> {
     show_base(recorded, text)?;
     let ext = recorded.ext.len();
@@ -62,7 +62,7 @@ fn show_degrees<A: SymLeaf>(
     Ok(())
 }
 
-// Adds the degrees of the polynomials of expressions over so many rows.
+// Adds the degrees of the polynomials of expressions over a number of rows.
 fn show_poly_degrees<A: SymLeaf>(
     pool: &ExprPool<A>,
     numbers: &[ExprId<A>],
@@ -82,17 +82,17 @@ fn show_poly_degrees<A: SymLeaf>(
     Ok(())
 }
 
-// What is asked of an AIR's base constraints.
+// The question about an AIR's base constraints.
 #[derive(Drop)]
 enum Asked {
     Constraints,
     /// The degrees that their nodes state.
     Degrees,
-    /// The degrees of their polynomials over so many rows, with these lengths of periodic columns.
+    /// The degrees of their polynomials over a number of rows, with these lengths of the periodic columns.
     PolyDegrees { rows: usize, periods: Vec<usize> },
 }
 
-// What a call without more words asks of them.
+// The question that a call without more words asks, or `None`.
 fn asked_alone(call: &str) -> Option<Asked> {
     match call {
         "get_symbolic_constraints" => Some(Asked::Constraints),
@@ -101,7 +101,7 @@ fn asked_alone(call: &str) -> Option<Asked> {
     }
 }
 
-// What a call asks of them, if it does.
+// The question that a call asks, or `None`.
 fn asked_of(alloc: Global, call: &str, words: &[&str]) -> Result<Option<Asked>, Fault> {
     match words {
         [] => Ok(asked_alone(call)),
@@ -114,7 +114,7 @@ fn asked_of(alloc: Global, call: &str, words: &[&str]) -> Result<Option<Asked>, 
     }
 }
 
-// Adds what is asked of the base constraints.
+// Adds the answer about the base constraints of a recording.
 fn show_asked<F: Number>(
     recorded: &Recorded<F, F>,
     asked: &Asked,
@@ -129,7 +129,7 @@ fn show_asked<F: Number>(
     }
 }
 
-// The same of an AIR.
+// Adds the answer about the base constraints of an AIR.
 fn show_asked_of<F: Number, A: Air<Recorder<F, F>>>(
     alloc: Global,
     air: &A,
@@ -172,7 +172,7 @@ fn show_extension<F: Number, EF: ExtensionField<F>, A: Air<Recorder<F, EF>>>(
     show_both(&recorded, text)
 }
 
-// The builder on which the AIR was evaluated.
+// The builder after the AIR's `eval`.
 fn evaluate_air<F: Number, EF: ExtensionField<F>, A: Air<Recorder<F, EF>>>(
     alloc: Global,
     air: &A,
@@ -183,7 +183,7 @@ fn evaluate_air<F: Number, EF: ExtensionField<F>, A: Air<Recorder<F, EF>>>(
     Ok(builder)
 }
 
-// Adds how many constraints of each kind a builder has recorded, and their places.
+// Adds the number of recorded constraints of each kind, and their indices.
 fn show_places<F: Number, EF: ExtensionField<F>>(
     builder: &Recorder<F, EF>,
     text: &mut String,
@@ -195,7 +195,7 @@ fn show_places<F: Number, EF: ExtensionField<F>>(
     Ok(())
 }
 
-// Adds those of an AIR.
+// Adds the number of constraints that an AIR records, and their indices.
 fn show_evaluated<F: Number, EF: ExtensionField<F>, A: Air<Recorder<F, EF>>>(
     alloc: Global,
     air: &A,
@@ -206,7 +206,7 @@ fn show_evaluated<F: Number, EF: ExtensionField<F>, A: Air<Recorder<F, EF>>>(
     show_places(&builder, text)
 }
 
-// Adds the places of the constraints of each kind.
+// Adds the constraint indices of each kind.
 fn show_layout<F: Number, EF: ExtensionField<F>, A: Air<Recorder<F, EF>>>(
     alloc: Global,
     air: &A,
@@ -218,7 +218,7 @@ fn show_layout<F: Number, EF: ExtensionField<F>, A: Air<Recorder<F, EF>>>(
     Ok(())
 }
 
-// Adds the degree that is inferred.
+// Adds the inferred degree.
 fn show_inferred<F: Number, A: Air<Recorder<F, F>>>(
     alloc: Global,
     air: &A,
@@ -233,7 +233,7 @@ fn show_inferred<F: Number, A: Air<Recorder<F, F>>>(
     Ok(())
 }
 
-// The same over the extension.
+// Adds the inferred degree over the extension.
 fn show_inferred_extension<F: Number, EF: ExtensionField<F>, A: Air<Recorder<F, EF>>>(
     alloc: Global,
     air: &A,
@@ -248,7 +248,7 @@ fn show_inferred_extension<F: Number, EF: ExtensionField<F>, A: Air<Recorder<F, 
     Ok(())
 }
 
-// Adds what is inferred of an AIR, if the call asks that.
+// Adds the inferred degree of an AIR. Returns whether the call asks for it.
 fn answer_inferred<F: Number, A: Air<Recorder<F, F>>>(
     alloc: Global,
     air: &A,
@@ -266,7 +266,7 @@ fn answer_inferred<F: Number, A: Air<Recorder<F, F>>>(
     }
 }
 
-/// Adds what a call answers of an AIR that is recorded over the base field, if it is one.
+/// Adds the answer of a call that records an AIR over the base field. Returns whether this is such a call.
 pub fn answer_base<F: Number, A: Air<Recorder<F, F>>>(
     alloc: Global,
     air: &A,
@@ -284,7 +284,7 @@ pub fn answer_base<F: Number, A: Air<Recorder<F, F>>>(
     }
 }
 
-// Adds what a call without more words answers.
+// Adds the answer of a call without more words.
 fn answer_alone<F: Number, EF: ExtensionField<F>, A: Air<Recorder<F, EF>>>(
     alloc: Global,
     air: &A,
@@ -303,7 +303,7 @@ fn answer_alone<F: Number, EF: ExtensionField<F>, A: Air<Recorder<F, EF>>>(
     }
 }
 
-/// Adds what a call answers of an AIR that is recorded with an extension.
+/// Adds the answer of a call that records an AIR with an extension.
 pub fn answer_extension<F: Number, EF: ExtensionField<F>, A: Air<Recorder<F, EF>>>(
     alloc: Global,
     air: &A,

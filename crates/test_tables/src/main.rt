@@ -1,4 +1,4 @@
-//! Every case that is a line of a table: the folder of a table names the layer whose calls its lines make.
+//! Runs the tables. The folder of a table names the layer whose calls its lines make.
 #![tactic(auto)]
 
 use std::process::ExitCode;
@@ -30,7 +30,7 @@ impl Tables for AllTables {
     }
 }
 
-/// Checks the tables that its words name.
+/// Checks the tables that its arguments name.
 fn main(rt: HostRuntime) -> ExitCode {
     test_lines::run::<AllTables>(&rt)
 }

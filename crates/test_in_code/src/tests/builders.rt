@@ -1,4 +1,4 @@
-//! Errors that pass through `?`, and names that are literals or made by closures.
+//! Errors through `?`, and names given as literals or by closures.
 
 use air_core::{AirError, BoundaryEnd, BoundaryIoError, Element, Lazy, Name, NamespaceExt};
 use air_field::{MatrixError, RingError};
@@ -34,7 +34,7 @@ fn errors_from_below_keep_what_they_say(rt: HostRuntime) -> Result<(), Fail> {
     Ok(())
 }
 
-// Adds a name's text in brackets.
+// Adds the text of a name, in brackets.
 fn add_name<N: Name>(name: N, text: &mut String) -> Result<(), Fail>
     requires { N.can_evaluate name }
 {
@@ -43,8 +43,8 @@ fn add_name<N: Name>(name: N, text: &mut String) -> Result<(), Fail>
     Ok(())
 }
 
-// Adds the text of the name `outer::inner`. (The name of two parts is named here alone: a call is proved the sooner the
-// less its types nest.)
+// Adds the text of the name `outer::inner`. (Only this function names the nested type: calls with less nested types are
+// proved sooner.)
 fn add_under<A: NamespaceExt, N: Name>(outer: A, inner: N, text: &mut String) -> Result<(), Fail>
     requires outer { A.can_evaluate outer }
     requires inner { N.can_evaluate inner }
@@ -52,7 +52,7 @@ fn add_under<A: NamespaceExt, N: Name>(outer: A, inner: N, text: &mut String) ->
     add_name(outer.name(inner), text)
 }
 
-// Adds the texts of names of each kind under namespaces.
+// Adds the texts of all kinds of names under namespaces.
 fn add_names(alloc: Global, text: &mut String) -> Result<(), Fail> {
     add_under("outer".join("mid"), "leaf", text)?;
     add_under("", "", text)?;

@@ -1,6 +1,6 @@
-//! What fails at a row: batches as arrays, and names that are asked for only where an assertion fails. The assertions
-//! stand in functions over any builder that is always ready and whose rings have every element, and the builder is made
-//! over any fields: at given ones each call is dear to prove.
+//! Failures at a row: batches given as arrays, and names that are read only where an assertion fails. The assertions
+//! are in functions over any builder that is always ready and whose rings contain every element, and the builder is
+//! made over any fields, since each call at concrete fields is slow to prove.
 
 use crate::tests::labels::{Asking, zero_asking, zero_ext_asking};
 use crate::tests::rows::{Element, Row, no_rows, root_times, row_with};
@@ -12,8 +12,8 @@ use std::alloc::Global;
 use std::cell::Cell;
 use std::test::Fail;
 
-// Asserts arrays. (They are handed on: one of a builder's elements can be made where their type is known. The bound is
-// the trait of arrays, so that each call here is of what is given.)
+// Asserts arrays. (They are passed on, because an array of a builder's elements can be made only where the element type
+// is known. The bound is the array trait, so that each call here uses the given bound.)
 fn assert_arrays<AB: AssertAll<2>>(
     builder: &mut AB,
     zeros: [AB::Expr; 2],
@@ -28,7 +28,7 @@ fn assert_arrays<AB: AssertAll<2>>(
     builder.assert_eq_arrays(bits, ones)
 }
 
-// The same under names.
+// Asserts arrays under names.
 fn assert_named_arrays<AB: AssertAllNamed<2>>(
     builder: &mut AB,
     zeros: [AB::Expr; 2],
@@ -41,7 +41,7 @@ fn assert_named_arrays<AB: AssertAllNamed<2>>(
     builder.assert_bools_named(bits, "bits")
 }
 
-// Both, and one over the extension.
+// Asserts arrays without and with names, and one array over the extension.
 fn assert_all_arrays<AB: NamedExtensionBuilder>(
     builder: &mut AB,
     zeros: [AB::Expr; 2],
@@ -58,7 +58,7 @@ fn assert_all_arrays<AB: NamedExtensionBuilder>(
     builder.assert_zeros_ext(roots)
 }
 
-// All of them at a row.
+// Asserts all these arrays at a row.
 fn assert_arrays_at_row<F: Field + 'static, EF: ExtensionField<F> + 'static>(
     builder: &mut Row<'_, F, EF>,
     zeros: [F; 2],
@@ -69,7 +69,7 @@ fn assert_arrays_at_row<F: Field + 'static, EF: ExtensionField<F> + 'static>(
     assert_all_arrays(builder, zeros, bits, ones, roots)
 }
 
-// What fails of them there.
+// The failures of these arrays at a row.
 fn failures_of_arrays<F: Field + 'static, EF: ExtensionField<F> + 'static>(
     alloc: Global,
     rows: ViewPair<'_, EF>,
@@ -83,7 +83,7 @@ fn failures_of_arrays<F: Field + 'static, EF: ExtensionField<F> + 'static>(
     builder.formatted_failures()
 }
 
-// Of each array the second element's assertion fails.
+// In each array the second assertion fails.
 #[test]
 fn arrays_are_batches(rt: HostRuntime) -> Result<(), Fail> {
     let [zero, one, two] = [0, 1, 2].map(BabyBear::new);
@@ -103,7 +103,7 @@ fn arrays_are_batches(rt: HostRuntime) -> Result<(), Fail> {
     Ok(())
 }
 
-// Asserts under names what holds of one.
+// Asserts under names that an element is one, equals itself, and is a bit.
 fn ones_asking<AB: NamedAirBuilder>(
     builder: &mut AB,
     one: AB::Expr,
@@ -117,7 +117,7 @@ fn ones_asking<AB: NamedAirBuilder>(
     builder.assert_bool_named(one, Asking(asked))
 }
 
-// The same of batches, of zeros and of ones.
+// Asserts batches of zeros and of ones, under names.
 fn batches_asking<AB: NamedAirBuilder>(
     builder: &mut AB,
     zeros: &[AB::Expr],
@@ -131,7 +131,7 @@ fn batches_asking<AB: NamedAirBuilder>(
     builder.assert_bools_named_slice(ones, Asking(asked))
 }
 
-// The same over the extension, of one, and of an element and itself.
+// Asserts over the extension, under names, that an element is one, and that an element equals itself.
 fn ext_asking<AB: NamedExtensionBuilder>(
     builder: &mut AB,
     one: AB::ExprEF,
@@ -157,16 +157,16 @@ fn one_asking<AB: NamedAirBuilder>(
     builder.assert_one_named(x, Asking(asked))
 }
 
-/// What is asserted, under names that tell a counter when they are asked for.
+/// A claim. Its names set a counter when they are read.
 #[derive(Drop)]
 enum Claim<'a, E, X> {
-    /// That the element is zero.
+    /// The element is zero.
     Zero(E),
-    /// The same over the extension.
+    /// The element of the extension is zero.
     ZeroExt(X),
-    /// That the element is one.
+    /// The element is one.
     One(E),
-    /// What holds, by way of each call.
+    /// Claims that hold, one by each call.
     Holding {
         one: E,
         zeros: &'a [E],
@@ -176,7 +176,7 @@ enum Claim<'a, E, X> {
     },
 }
 
-// Asserts what holds, by way of each call.
+// Asserts claims that hold, one by each call.
 fn holding_asking<AB: NamedExtensionBuilder>(
     builder: &mut AB,
     one: AB::Expr,
@@ -219,7 +219,8 @@ fn claim_asking<AB: NamedExtensionBuilder>(
     }
 }
 
-// The same at a row. (That a builder at a row is one of every kind is dear to prove, so all claims come here.)
+// Asserts a claim at a row. (That a builder at a row implements every builder trait is slow to prove, so all claims use
+// this function.)
 fn claim_at_row<'a, F: Field + 'static, EF: ExtensionField<F> + 'static>(
     builder: &mut Row<'a, F, EF>,
     claim: Claim<'a, F, EF>,
@@ -228,8 +229,8 @@ fn claim_at_row<'a, F: Field + 'static, EF: ExtensionField<F> + 'static>(
     claim_asking(builder, claim, asked)
 }
 
-// What a counter says at a row after claims of both kinds that hold, after one that fails, and after one over the
-// extension that fails; and what failed.
+// The counter at a row after claims of both kinds that hold, after one that fails, and after one over the extension
+// that fails; and the failures.
 fn counts_asked<F: Field + 'static, EF: ExtensionField<F> + 'static>(
     builder: &mut Row<'_, F, EF>,
     root: EF,
@@ -245,7 +246,7 @@ fn counts_asked<F: Field + 'static, EF: ExtensionField<F> + 'static>(
     Ok(([passing, failing, asked.get()], failures))
 }
 
-// The same of a builder with these permutation data.
+// The counter and the failures for a builder with these permutation data.
 fn counts_and_failures<F: Field + 'static, EF: ExtensionField<F> + 'static>(
     alloc: Global,
     rows: ViewPair<'_, EF>,
@@ -267,8 +268,8 @@ fn a_passing_assertion_asks_for_no_label(rt: HostRuntime) -> Result<(), Fail> {
     Ok(())
 }
 
-// Whether what holds failed at a row, and what the counter says then; and after one more claim, which fails, what the
-// counter says and what failed.
+// Whether claims that hold fail at a row, and the counter after them; then the counter and the failures after one more
+// claim, which fails.
 fn holding_and_one_more<'a, F: Field + 'static, EF: ExtensionField<F> + 'static>(
     builder: &mut Row<'a, F, EF>,
     holding: Claim<'a, F, EF>,
@@ -281,7 +282,7 @@ fn holding_and_one_more<'a, F: Field + 'static, EF: ExtensionField<F> + 'static>
     Ok((failed, holding, asked.get(), failures))
 }
 
-// The same of a builder with these permutation data.
+// The same results for a builder with these permutation data.
 fn what_holds_and_one_more<'a, F: Field + 'static, EF: ExtensionField<F> + 'static>(
     alloc: Global,
     rows: ViewPair<'a, EF>,

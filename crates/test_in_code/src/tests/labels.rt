@@ -1,5 +1,5 @@
-//! Names that tell a counter when they are asked for, and assertions under such names. (Over any builder, which is
-//! proved far sooner than the same on a given one.)
+//! Names that set a counter when they are read, and assertions under such names. (Over any builder, which is proved
+//! much sooner than at a concrete one.)
 ghost use Rattle.std.specs.Prelude.{⊤};
 
 use air_audit::{
@@ -9,7 +9,7 @@ use air_audit::{
 use std::alloc::AllocError;
 use std::cell::Cell;
 
-/// A name that sets a counter to 1 where it is asked for.
+/// A name that sets a counter to 1 when it is read.
 #[derive(Clone, Copy, Drop)]
 pub struct Asking<'a>(pub &'a Cell<u32>);
 
@@ -28,7 +28,7 @@ impl Name for Asking<'_> {
 
 impl Namespace for Asking<'_> {}
 
-/// Asserts that `x` is zero, under a name that is made where it is asked for, and then sets a counter to 1.
+/// Asserts that `x` is zero, under a name that is made only when it is read, which sets a counter to 1.
 pub fn zero_asking<AB: NamedAirBuilder>(
     builder: &mut AB,
     x: AB::Expr,
@@ -46,7 +46,7 @@ pub fn zero_asking<AB: NamedAirBuilder>(
     )
 }
 
-/// The same over the extension, where the counter is set to 2.
+/// Asserts over the extension that `x` is zero, under a name that sets the counter to 2.
 pub fn zero_ext_asking<AB: NamedExtensionBuilder>(
     builder: &mut AB,
     x: AB::ExprEF,

@@ -1,4 +1,4 @@
-//! What a builder at a row, or a filter on it, lends.
+//! What a builder at a row, or a filter on it, gives access to.
 ghost use Rattle.std.specs.Prelude.{◌≡◌, IfOk};
 
 use crate::tests::rows::{Element, Row, no_rows, root_times, row_with};
@@ -11,7 +11,7 @@ use std::alloc::Global;
 use std::fmt::Debug;
 use std::test::Fail;
 
-// The context of a filter on a builder is the builder's own, by contract.
+// The context of a filter is its builder's context, by contract.
 fn context_of_filter<C: Copy, AB: AirBuilderWithContext<EvalContext = C>>(
     builder: &mut AB,
     condition: AB::Expr,
@@ -22,7 +22,7 @@ fn context_of_filter<C: Copy, AB: AirBuilderWithContext<EvalContext = C>>(
     Ok(*filter.eval_context())
 }
 
-// The contexts that a builder and a filter on it hand on, as a text.
+// The contexts of a builder and of a filter on it, as a text.
 fn context_texts<C: Copy + Debug, AB: AirBuilderWithContext<EvalContext = C>>(
     alloc: Global,
     builder: &mut AB,
@@ -33,7 +33,7 @@ fn context_texts<C: Copy + Debug, AB: AirBuilderWithContext<EvalContext = C>>(
     Ok(format!(in alloc; "{own:?} {handed_on:?}")?)
 }
 
-// Those that a builder at a row and a filter on it hand on.
+// The contexts of a builder at a row and of a filter on it.
 fn context_texts_at_row<F: Field + 'static, EF: ExtensionField<F> + 'static>(
     alloc: Global,
     builder: &mut Row<'_, F, EF>,
@@ -41,7 +41,7 @@ fn context_texts_at_row<F: Field + 'static, EF: ExtensionField<F> + 'static>(
     context_texts(alloc, builder, F::TWO)
 }
 
-// The same of a builder with these permutation data.
+// The contexts for a builder with these permutation data.
 fn contexts_of_row<F: Field + 'static, EF: ExtensionField<F> + 'static>(
     alloc: Global,
     rows: ViewPair<'_, EF>,
@@ -59,8 +59,7 @@ fn a_builder_at_a_row_and_a_filter_on_it_have_the_empty_context(
     Ok(())
 }
 
-// What a filter lends of permutation data: column 1 of the window's current row, and the next row's variable in column
-// 0.
+// A filter's permutation data: column 1 of the current row, and the variable of column 0 in the next row.
 fn lent_by<AB: PermutationAirBuilder>(
     filter: &FilteredAirBuilder<'_, AB>,
 ) -> Result<(Option<AB::VarEF>, Option<AB::VarEF>), AirError>
@@ -72,7 +71,7 @@ where
     Ok((current, next))
 }
 
-// The same of a filter on a builder.
+// The permutation data that a filter on a builder gives.
 fn lent_by_filter<AB: PermutationAirBuilder>(
     builder: &mut AB,
     condition: AB::Expr,
@@ -86,14 +85,14 @@ where
     lent_by(&filter)
 }
 
-// The same at a row.
+// The permutation data that a filter at a row gives.
 fn lent_at_row<F: Field + 'static, EF: ExtensionField<F> + 'static>(
     builder: &mut Row<'_, F, EF>,
 ) -> Result<(Option<EF>, Option<EF>), AirError> {
     lent_by_filter(builder, F::TWO)
 }
 
-// The same of these permutation data.
+// The result of `lent_at_row` for these permutation data.
 fn lent_of_rows<F: Field + 'static, EF: ExtensionField<F> + 'static>(
     alloc: Global,
     rows: ViewPair<'_, EF>,

@@ -1,5 +1,6 @@
-//! Recordings and folds of assertions, under names that tell whether they are asked for: never. The assertions stand in
-//! functions over any builder, and the builders are made over any fields: at given ones each call is dear to prove.
+//! Recordings and folds of assertions under names that record whether they are read: they never are. The assertions are
+//! in functions over any builder, and the builders are made over any fields, since each call at concrete fields is slow
+//! to prove.
 use crate::tests::labels::{zero_asking, zero_ext_asking};
 use crate::tests::rows::{Element, root_times};
 use air_audit::{
@@ -12,7 +13,7 @@ use std::alloc::Global;
 use std::cell::Cell;
 use std::test::Fail;
 
-// Asserts under a name that an element of the extension is zero. The builder is ready for more.
+// Asserts under a name that an element of the extension is zero. Afterwards the builder is ready.
 fn constant_asking<AB: NamedExtensionBuilder>(
     builder: &mut AB,
     x: AB::EF,
@@ -25,7 +26,7 @@ fn constant_asking<AB: NamedExtensionBuilder>(
     zero_ext_asking(builder, x, asked)
 }
 
-// Asserts under a name that the first row is none.
+// Asserts under a name that the first row's selector is zero.
 fn first_row_asking<AB: NamedAirBuilder>(
     builder: &mut AB,
     asked: &Cell<u32>,
@@ -36,7 +37,7 @@ fn first_row_asking<AB: NamedAirBuilder>(
     zero_asking(builder, x, asked)
 }
 
-// Both.
+// Makes both assertions.
 fn both_asking<AB: NamedExtensionBuilder>(
     builder: &mut AB,
     x: AB::EF,
@@ -48,7 +49,7 @@ fn both_asking<AB: NamedExtensionBuilder>(
     first_row_asking(builder, asked)
 }
 
-// How many base and extension constraints are recorded of both.
+// The numbers of base and extension constraints recorded for both.
 fn recorded_asking<F: Field, EF: ExtensionField<F>>(
     alloc: Global,
     asked: &Cell<u32>,
@@ -73,7 +74,7 @@ fn a_recording_asks_for_no_label(rt: HostRuntime) -> Result<(), Fail> {
     Ok(())
 }
 
-// Asserts where a condition holds that `x` is zero.
+// Asserts under a condition that `x` is zero.
 fn assert_under<AB: AirBuilder>(
     builder: &mut AB,
     condition: AB::Expr,
@@ -87,7 +88,7 @@ fn assert_under<AB: AirBuilder>(
     filter.assert_zero(x)
 }
 
-// The same for an extension constraint.
+// Asserts over the extension, under a condition, that `x` is zero.
 fn assert_ext_under<AB: ExtensionBuilder>(
     builder: &mut AB,
     condition: AB::Expr,
@@ -116,7 +117,7 @@ fn two_asking<AB: NamedExtensionBuilder>(
     zero_ext_asking(builder, y, asked)
 }
 
-// The same where conditions hold.
+// Asserts under conditions that an element and one of the extension are zero.
 fn two_under<AB: ExtensionBuilder>(
     builder: &mut AB,
     condition: AB::Expr,
@@ -132,7 +133,7 @@ fn two_under<AB: ExtensionBuilder>(
     assert_ext_under(builder, ext_condition, y)
 }
 
-// All four: each kind under a name, and where its condition holds. (The folder is named to the four by one call.)
+// All four assertions: each kind under a name, and under a condition. (One call names the folder's type for all four.)
 fn four_asking<AB: NamedExtensionBuilder>(
     builder: &mut AB,
     named: (AB::Expr, AB::ExprEF),
@@ -163,7 +164,7 @@ fn folder_by<'a, F: Field, EF: ExtensionField<F>>(alpha: EF) -> Folder<'a, F, EF
     ConstraintFolder::new(rows, rows, None, &[], &[], &[], &[], zero, zero, one, alpha)
 }
 
-// What 1, `x`, 12 and 30 are folded to by 10; the last two are products with conditions.
+// The fold of 1, `x`, 12 and 30 by alpha 10; the last two are products with conditions.
 fn fold_four<F: Field, EF: ExtensionField<F>>(x: EF, asked: &Cell<u32>) -> Result<EF, AirError> {
     let conditions = (element::<F, EF>(3), element::<F, EF>(5));
     let under = (element::<F, EF>(4), element::<F, EF>(6));
@@ -172,7 +173,7 @@ fn fold_four<F: Field, EF: ExtensionField<F>>(x: EF, asked: &Cell<u32>) -> Resul
     Ok(folder.accumulator())
 }
 
-// 1, 2X, 12 and 30: 1000 + 200X + 120 + 30 by alpha 10. No name is asked for.
+// Folds 1, 2X, 12 and 30 by alpha 10 to 1000 + 200X + 120 + 30. No name is read.
 #[test]
 fn each_assertion_is_folded(rt: HostRuntime) -> Result<(), Fail> {
     let asked = Cell::new(0);

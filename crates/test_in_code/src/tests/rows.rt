@@ -6,7 +6,7 @@ use air_audit::{
 };
 use std::alloc::Global;
 
-/// The extension that tests are tried at.
+/// The extension that the tests use.
 pub type Element = BinomialExtensionField;
 
 /// A builder at a row.
@@ -41,7 +41,7 @@ pub fn no_rows<'a>() -> ViewPair<'a, Element> {
     ViewPair::new(none, none)
 }
 
-/// So many times the root of the extension.
+/// `x` times the root of the extension.
 pub fn root_times(x: u32) -> Element {
     Element::from_basis_coefficients(&[0, x, 0, 0].map(BabyBear::new))
 }

@@ -6,7 +6,7 @@ use air_program::{Sink, Source, StreamFault, run};
 use std::alloc::Global;
 use std::test::*;
 
-/// Gives bytes, three at a call, and fails once it has answered so many calls.
+/// Gives three bytes a call, and fails after a number of calls.
 #[derive(Drop)]
 struct Pieces<'a> {
     bytes: &'a [u8],
@@ -40,7 +40,7 @@ impl Source for Pieces<'_> {
     }
 }
 
-/// Keeps bytes, three of a call, and fails once it has answered so many calls.
+/// Keeps three bytes a call, and fails after a number of calls.
 #[derive(Drop)]
 struct Kept {
     bytes: Vec<u8>,
@@ -74,7 +74,7 @@ const INPUT: &[u8] = b"0 1 3\n0 1\n1 1\n1 2\n2 3\n";
 
 const OBJECT: &[u8] = b"{\"main_width\":1,\"main\":[0],\"public_values\":[],\"constraints\":[]}";
 
-/// The words of a text, which single spaces separate.
+/// The words of a text, separated by single spaces.
 fn words_of(alloc: Global, text: &str) -> Result<Vec<String>, Fail> {
     let mut words = Vec::new(alloc);
     for word in text.split(' ') {
@@ -83,7 +83,7 @@ fn words_of(alloc: Global, text: &str) -> Result<Vec<String>, Fail> {
     Ok(words)
 }
 
-/// The status of a run; none where a write failed.
+/// The status of a run; `None` if a write failed.
 fn status_of(
     alloc: Global,
     words: &[String],
@@ -96,8 +96,8 @@ fn status_of(
     run(alloc, words, reader, writer).ok()
 }
 
-/// The status of a run whose reader and writer fail after so many calls, and what was written; no status where a write
-/// failed.
+/// The status of a run whose reader and writer fail after a number of calls, and the bytes written. There is no status
+/// if a write failed.
 fn run_cut(
     alloc: Global,
     text: &str,
@@ -122,7 +122,7 @@ fn run_cut(
 
 const MANY: u64 = 10_000;
 
-/// Each read fails in turn, up to the one that would have said that this is the end.
+/// Each read fails in turn, up to the one that would report the end.
 #[test]
 fn tells_failed_reads(rt: HostRuntime) -> Result<(), Fail> {
     for (text, input) in [

@@ -22,7 +22,7 @@ returns g c =
     adds_up R g.F.Field.CHARACTERISTIC domain s c.words_are_exact.ensures.add2 big (word_at 0) (word_at 34) (word_at 68) (word 0 a.0) (word 34 b.0) (word 68 sum.0) sum.1)
     c.check_constraints.ensures.kept
 
--- the field lives for ever
+-- F is 'static
 pub check_constraints-requires-lives-A-Air : goal.check_constraints-requires-lives-A-Air
 check_constraints-requires-lives-A-Air g c κs within a m = ⊑_static _ a (c.type_bounds.static-F a m)
 

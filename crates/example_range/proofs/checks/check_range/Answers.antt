@@ -15,7 +15,7 @@ returns g c =
     bits_below R g.met.F.PrimeField.domain _ (current 0) 1 15 h)
     c.check_constraints.ensures.kept
 
--- the field lives for ever
+-- F is 'static
 pub check_constraints-requires-lives-A-Air : goal.check_constraints-requires-lives-A-Air
 check_constraints-requires-lives-A-Air g c κs within a m = ⊑_static _ a (c.type_bounds.static-F a m)
 

@@ -1,7 +1,7 @@
 use contract.BorrowLft.{⊑_static}
 use Rattle.test_builders.proofs.words.report_of.Goals as goal
 
--- the field lives for ever
+-- F is 'static
 pub check_all_constraints-requires-lives-A-Air : goal.check_all_constraints-requires-lives-A-Air
 check_all_constraints-requires-lives-A-Air g c κs within a m = ⊑_static _ a (c.type_bounds.static-F a m)
 

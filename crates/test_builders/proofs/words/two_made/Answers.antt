@@ -3,7 +3,7 @@ use Rattle.air_symbolic.specs.Pools.{PoolHas}
 use Rattle.air_symbolic.specs.BaseLeaves.{base_reads}
 use Rattle.test_builders.proofs.words.two_made.Goals as goal
 
--- what holds of each of two holds of both
+-- two facts make `All` of a list of two
 both_hold : {X : Type 0} (P : X → Type 0) (x y : X) → P x → P y → All P (x ∷ y ∷ [])
 both_hold P x y p q zero d lt = p
 both_hold P x y p q (suc zero) d lt = q

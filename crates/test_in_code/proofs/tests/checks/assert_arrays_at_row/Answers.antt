@@ -1,7 +1,7 @@
 use contract.BorrowLft.{⊑_static}
 use Rattle.test_in_code.proofs.tests.checks.assert_arrays_at_row.Goals as goal
 
--- the extension lives for ever
+-- EF is 'static
 pub assert_all_arrays-requires-lives-AB-NamedExtensionBuilder-2 : goal.assert_all_arrays-requires-lives-AB-NamedExtensionBuilder-2
 assert_all_arrays-requires-lives-AB-NamedExtensionBuilder-2 g c κs within = λ a m. ⊑_static _ a (c.type_bounds.static-EF a m)
 
