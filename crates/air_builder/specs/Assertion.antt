@@ -1,4 +1,4 @@
--- What a builder is told to be zero.
+-- The assertions of a builder: terms that are to be zero.
 use Rattle.air_field.specs.Term.{Term, mul_term}
 
 -- a base term or an extension term

@@ -24,7 +24,7 @@ impl<'a, AB: AirBuilder> FilteredAirBuilder<'a, AB> {
         FilteredAirBuilder { inner, condition }
     }
 
-    /// What each assertion is multiplied by.
+    /// The condition: the factor of each assertion.
     #[inline(always)]
     pub fn condition(&self) -> AB::Expr
         ensures { result ≡ condition_of self.now }
