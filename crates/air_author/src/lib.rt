@@ -14,9 +14,9 @@
 //! inner selector multiplies first. Over the extension, `ExtZero`, `ExtEqual`, `ExtIsOne` and `ExtBoolean` take
 //! expressions such as `permutation_current(i)` and `challenge(i)`, and base leaves.
 //!
-//! Bits, words and their sums are in air_gadgets. An AIR with only a main trace and public values is a [`PlainAir`].
-//! `Already(x, value)` makes an expression `x` that a filter or a gadget was given part of a value: `value` is the one
-//! it was made from.
+//! Bits, words and their sums are in air_gadgets. An AIR with only a main trace and public values is a [`PlainAir`]. To
+//! use an expression `x` that a filter or a gadget was given, write `Already(x, value)`, where `value` is the value
+//! from which it was made.
 //!
 //! Calls fail only as the builder's `refuses` allows, or with `Memory`. An entry that the builder lacks is refused by
 //! its name, and an entry of the permutation trace with `NoPermutation` if the builder has no such trace.

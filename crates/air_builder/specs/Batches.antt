@@ -1,4 +1,4 @@
--- The effect of a call that asserts: growth by what each of its elements asserts, in order, or a refusal.
+-- The effect of a call that asserts: growth by the assertions of its elements, in order, or a refusal.
 use Rattle.std.specs.List.{AllZip}
 use Rattle.std.specs.Prelude.{◌≡◌, ◌⊎◌, ℕ, ◌<◌, List, length, take, Result, OnOk, OnErr, IfErr, ⊤}
 use Rattle.air_field.specs.Term.{Leaf, Term}
@@ -30,9 +30,9 @@ pub record OfBeginning {X : Type 0} (xs : List X) (fact : List X → Type 0) : T
 abbrev pub OfFirst : {S I F : Type 0} → (S → I → Assertion F → Type 0) → List I → S → (List (Assertion F) → Type 0) → Type 0
 OfFirst asserts xs a fact = OfBeginning xs (λ ys. OfEach asserts ys a fact)
 
--- The effect of a call that asserts: the builder is kept. At Ok it grew by all the assertions; at an Err by a strict prefix
--- of them, and growing by all of them may be refused so. `of_all` and `of_beginning` say what holds of all the assertions,
--- and of a strict prefix.
+-- The effect of a call that asserts: the builder is kept. At Ok it grew by all the assertions. At an Err it grew by a strict
+-- prefix of them, and growing by all of them may fail with this error. `of_all` and `of_beginning` say what holds of all the
+-- assertions, and of a strict prefix.
 pub record Asserted {S F X : Type 0} (of_all of_beginning : S → (List (Assertion F) → Type 0) → Type 0) (kept : S → S → Type 0)
     (grew : S → S → List (Assertion F) → Type 0) (refuses : S → X → List (Assertion F) → Type 0)
     (a b : S) (result : Result ⊤ X) : Type 0 where
@@ -41,7 +41,7 @@ pub record Asserted {S F X : Type 0} (of_all of_beginning : S → (List (Asserti
   pub err : OnErr result (of_beginning a (grew a b))
   pub refused : IfErr result (λ e. of_all a (refuses a e))
 
--- the effect of a call that asserts what each of xs asserts, in order
+-- the effect of a call that makes the assertions of each of xs, in order
 abbrev pub AssertedEach : {S I F X : Type 0} → (S → I → Assertion F → Type 0) → (S → S → Type 0)
     → (S → S → List (Assertion F) → Type 0) → (S → X → List (Assertion F) → Type 0) → S → S → List I → Result ⊤ X → Type 0
 AssertedEach asserts kept grew refuses a b xs result =

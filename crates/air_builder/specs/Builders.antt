@@ -80,7 +80,7 @@ pub record BuilderLaws {S R E F : Type 0} (view : BuilderView S R E F) : Type 0 
   pub has_first_row : (a : S) → view.missing a first_row → ⊥
   pub has_last_row : (a : S) → view.missing a last_row → ⊥
   pub has_transition : (a : S) → view.missing a transition → ⊥
-  -- a longer list is refused where a part of it is, or where the ring or a missing entry refuses
+  -- a list may be refused if a part of it may be, or if the ring or a missing entry refuses a part
   pub refuses_first : (a : S) (e : AirError) (xs ys : List (Assertion F))
       → view.refuses a e xs → view.refuses a e (xs ++ ys)
   pub refuses_then : (a b : S) (e : AirError) (xs ys : List (Assertion F))

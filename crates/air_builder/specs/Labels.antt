@@ -34,7 +34,7 @@ without_labels ls = map (λ l. l.0) ls
 abbrev pub GrewWithoutLabels : {S F : Type 0} → (S → S → List (Assertion F) → Type 0) → S → S → List (Labelled F) → Type 0
 GrewWithoutLabels grew a b ls = grew a b (without_labels ls)
 
--- the builder grew by what each element asserts, in order, the i-th under a label that the name at i may display
+-- the builder grew by each element's assertion, in order, the i-th under a label that the name at i may display
 pub record LabelledByEach {S I F : Type 0} (asserts : S → I → Assertion F → Type 0)
     (labelled : S → S → List (Labelled F) → Type 0) (says : ℕ → Option (List ℕ) → Type 0) (a b : S)
     (xs : List I) : Type 0 where

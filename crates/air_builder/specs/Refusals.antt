@@ -1,4 +1,4 @@
--- Where a builder may refuse.
+-- Missing entries, the errors that name them, and the parts of assertions.
 use Rattle.std.specs.Prelude.{◌≡◌, ◌<◌, ◌≤◌, ◌⊎◌, ◌↔◌, ℕ, List, [], ◌∷◌, None, slice_get, ⊤}
 use Rattle.air_field.specs.Term.{Leaf, preprocessed, main, permutation, Term, leaf_term, const_term, ext_const_term, add_term, sub_term, neg_term, mul_term}
 use Rattle.air_field.specs.Part.{Part}
@@ -34,7 +34,7 @@ NamesLeaf (MissingExtEntry e i) l = l ≡ ext_entry_leaf e i
 NamesLeaf NoPermutation l = IsPermutation l
 NamesLeaf _ l = ⊥
 
--- a leaf is missing exactly where its index is past the end of the row
+-- a leaf is missing exactly if its index is past the end of the row
 abbrev pub RowEnds : {V : Type 0} → (Leaf → Type 0) → (ℕ → Leaf) → List V → Type 0
 RowEnds missing at row = (i : ℕ) → missing (at i) ↔ (slice_get row i ≡ None)
 

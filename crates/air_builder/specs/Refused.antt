@@ -1,4 +1,4 @@
--- Where a builder refuses to grow.
+-- The errors of a builder.
 use Rattle.std.specs.Prelude.{ℕ, List, ⊤}
 use Rattle.air_field.specs.Term.{Leaf, permutation, Term, leaf_term}
 use Rattle.air_core.specs.Entries.{entry_leaf}

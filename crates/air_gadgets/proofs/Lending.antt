@@ -43,7 +43,7 @@ some_refused : {X F : Type 0} (refuses : X → Term F → Type 0) (s : Leaf → 
 some_refused refuses s e [] h = absurd h
 some_refused refuses s e (t ∷ ts) h = omega arith
 
--- if the ring refuses one of `ts`, the builder may refuse `all`, which has their parts
+-- if the ring refuses one of `ts`, the builder may refuse `all`, which has every part of `ts`
 refused_part : {S R E F : Type 0} {view : BuilderView S R E F} (laws : BuilderLaws view) (a : S) (e : RingError) (all ts : List (Term F))
     → ((t : Term F) → PartOf t (map Base ts) → PartOf t (map Base all))
     → RefusesOne view.ring_refuses e (map (with_leaves (view.reads_as a)) ts) → view.refuses a (air_error e) (map Base all)

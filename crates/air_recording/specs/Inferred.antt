@@ -1,4 +1,4 @@
--- The inferred degree, and where it is refused.
+-- The inferred degree, and its errors.
 use Rattle.std.specs.Prelude.{Result, Ok, Err, ◌≡◌, ◌⊎◌, ℕ, ◌≤◌, ◌^◌, max, List, [], ◌∷◌, ◌++◌, Vec, length, map, ⊤}
 use Rattle.air_field.specs.Ring.{CommRing, AlgebraOver, self_algebra}
 use Rattle.air_field.specs.Extension.{Basis}

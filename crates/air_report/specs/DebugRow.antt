@@ -36,7 +36,7 @@ abbrev pub counted_from : {F E : Type 0} → DebugConstraintBuilder F E → ℕ
     → DebugConstraintBuilder F E
 counted_from b count = record b { constraint_index = count }
 
--- the selectors at row i of h: each is one where it holds, and zero elsewhere
+-- the selectors at row i of h: each is one on its rows, and zero elsewhere
 abbrev pub row_selectors : {F : Type 0} → CommRing F → ℕ → ℕ → Selectors F
 row_selectors r i h = record {
   is_first_row = selector r (i == 0);

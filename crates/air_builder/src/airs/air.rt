@@ -92,7 +92,7 @@ pub trait BaseAir<F: Copy> {
     /// # Correctness
     ///
     /// A prover opens the next row of only these columns. If an override leaves out a column that a constraint reads
-    /// there, proofs fail, or nothing binds that column's next value: proofs may then be accepted of traces that break
+    /// there, proofs fail, or nothing binds that column's next value: proofs may then be accepted for traces that break
     /// the constraint. No check here compares the list with the constraints.
     fn main_next_row_columns(&self, alloc: Global) -> Result<Vec<usize>, AirError>
         ensures all { (has_own_next_row_columns self.now → ⊥) → IfOk result

@@ -15,7 +15,7 @@ pub trait AirBuilderWithContext: AirBuilder {
     fn eval_context(&self) -> &Self::EvalContext
         ensures { result.now ≡ context self.now };
 
-    // a builder that is kept keeps its context
+    // keeping a builder keeps its context
     ghost context_kept: { (a b : Self) → Self.kept a b → context b ≡ context a };
 }
 

@@ -11,7 +11,7 @@ use air_field::{Algebra, Field, FromVar};
 ///
 /// # Correctness
 ///
-/// That the limbs have 16 bits isn't asserted: check their ranges yourself. If they have, the assertion is exact in a
+/// That the limbs have 16 bits isn't asserted: check their ranges yourself. If they do, the assertion is exact in a
 /// field of characteristic above 2^17 in which a product is zero only if a factor is
 /// ([`words_are_exact`](crate::laws::words_are_exact)): a - b - c is 0 or -2^32, and the difference of the low limbs is
 /// 0 or -2^16, which fixes the carry.
@@ -36,7 +36,7 @@ pub fn add2<AB: AirBuilder>(
 ///
 /// # Correctness
 ///
-/// That the limbs have 16 bits isn't asserted: check their ranges yourself. If they have, the assertion is exact in a
+/// That the limbs have 16 bits isn't asserted: check their ranges yourself. If they do, the assertion is exact in a
 /// field of characteristic above 3 · 2^16 in which a product is zero only if a factor is
 /// ([`words_are_exact`](crate::laws::words_are_exact)); each carry may be 0, 1 or 2.
 pub fn add3<AB: AirBuilder>(

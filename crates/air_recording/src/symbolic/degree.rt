@@ -153,7 +153,7 @@ fn lengths_of<F>(alloc: Global, columns: &[Vec<F>]) -> Result<Vec<usize>, RingEr
 }
 
 /// The degree inferred from an AIR's recorded constraints: as [`degree_of`], for the lengths of the AIR's periodic
-/// columns. The numbers must be in the pool.
+/// columns, with the same errors. The numbers must be in the pool.
 pub fn infer_degree<F: Field, EF: ExtensionField<F>, A: BaseAir<F>>(
     alloc: Global,
     air: &A,

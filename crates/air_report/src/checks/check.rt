@@ -109,7 +109,7 @@ fn outcome_of<F: SelfExtension>(builder: DebugConstraintBuilder<'_, F, F>) -> Ro
 }
 
 /// Moves the builder to a row and evaluates an AIR there; nonzero constraints are added to its failures. The builder's
-/// list of periodic values is refilled, so that a row doesn't allocate one. Fails also with a missing entry, or with
+/// list of periodic values is refilled, so that a row doesn't allocate one. Also fails with a missing entry or
 /// `CountOverflow`.
 pub(crate) fn check_row<'a, F: SelfExtension + 'static, A: Air<DebugConstraintBuilder<'a, F, F>>>(
     air: &'a A,
@@ -152,7 +152,7 @@ pub(crate) fn is_reached(cap: Option<usize>, failures: usize) -> bool
 }
 
 /// Evaluates an AIR on the rows of a trace while there are fewer failures than the cap; one builder moves from row to
-/// row and keeps the failures. Fails also with a missing entry, or with `CountOverflow`, if a row runs.
+/// row and keeps the failures. If a row runs, also fails with a missing entry or `CountOverflow`.
 fn check_rows<'a, F: SelfExtension + 'static, A: Air<DebugConstraintBuilder<'a, F, F>>>(
     alloc: Global,
     air: &'a A,

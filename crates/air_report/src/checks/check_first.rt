@@ -14,7 +14,7 @@ use air_field::{RowMajorMatrix, SelfExtension};
 use std::alloc::Global;
 use thiserror::Error;
 
-/// Why a trace doesn't keep the constraints, or wasn't checked to its end.
+/// Why a trace doesn't satisfy its constraints, or why the check stopped.
 #[derive(Debug, Drop, Error)]
 pub enum CheckError {
     /// A boundary value differs from its public value: the index of the first such in the AIR's list, and its row.
