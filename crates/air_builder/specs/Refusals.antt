@@ -25,8 +25,8 @@ IsOfWindow (Main o) = o ≤ 1
 IsOfWindow Periodic = ⊤
 IsOfWindow Public = ⊤
 
--- the error names the leaf. `MissingEntry` names an entry in a window; `RowOffset` names every column of that row;
--- `NoPermutation` names every permutation column
+-- the error names the leaf. `MissingEntry` names an entry of a window, a periodic column or a public value;
+-- `MissingExtEntry` its entry; `RowOffset` every column of that row; `NoPermutation` every permutation column
 abbrev pub NamesLeaf : AirError → Leaf → Type 0
 NamesLeaf (MissingEntry e i) l = (l ≡ entry_leaf e i) × IsOfWindow e
 NamesLeaf (RowOffset o) l = IsPastWindow o l

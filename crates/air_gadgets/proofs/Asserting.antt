@@ -18,7 +18,7 @@ Then {F = F} is more ss = (xs : List (Assertion F)) × (ys : List (Assertion F))
 module _ {S R E F : Type 0} {view : BuilderView S R E F} (laws : BuilderLaws view) where
   open view use {reads_as, kept, grew, refuses}
 
-  -- an assertion of every list in `was` is one of every list in `is`, if these are among those
+  -- `AssertedSuch` for the lists of `was` holds for those of `is`, if each of these is one of those
   pub list_of : {is was : List (Assertion F) → Type 0} {a b : S} (result : Result (Unit {0}) AirError)
       → ((ss : List (Assertion F)) → is ss → was ss) → AssertedSuch was kept grew refuses a b result
       → AssertedSuch is kept grew refuses a b result

@@ -8,7 +8,7 @@ use Rattle.air_field.specs.Term.{Leaf, Term}
 use Rattle.air_field.specs.Polynomial.{polynomial, HasDegreeAtMost}
 use Rattle.air_field.specs.Degree.{degree_by, transition_weight, trace_weight, greatest_degree, inferred_degree}
 
--- the bound of a quotient of degree d: d times one less than the rows, plus one
+-- the bound of a quotient of degree d: d (n - 1) + 1
 abbrev pub bound_of : ℕ → ℕ → ℕ
 bound_of d n = d * (n - 1) + 1
 
@@ -31,13 +31,13 @@ domain_weight zero n periods = trace_weight n periods
 domain_weight (suc w) n periods = transition_weight (suc w)
 
 -- The greatest degree over n rows that a leaf's polynomial has in the domain: for weight 0 its degree over a trace; for a
--- weight from 1 its weight times one less than the rows.
+-- weight from 1 n - 1 times its weight.
 abbrev pub leaf_degree : ℕ → ℕ → List ℕ → Leaf → ℕ
 leaf_degree zero n periods = trace_weight n periods
 leaf_degree (suc w) n periods = λ l. transition_weight (suc w) l * (n - 1)
 
 -- The bound that degree d sets over n rows on polynomials in the domain: for weight 0 that of a quotient of degree d; for a
--- weight from 1 d times one less than the rows.
+-- weight from 1 d (n - 1).
 abbrev pub polynomial_bound : ℕ → ℕ → ℕ → ℕ
 polynomial_bound zero d n = bound_of d n
 polynomial_bound (suc w) d n = d * (n - 1)

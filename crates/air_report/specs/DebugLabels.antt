@@ -38,8 +38,8 @@ pub record LogsFailure (row k : ℕ) (says : Option (List ℕ) → Type 0) (fs g
   pub said : says text
   pub kept : KeepsText text failure.label
 
--- an assertion of constraint index k was logged: the counter rose; if it holds, the failures are unchanged, else its failure
--- was added
+-- an assertion with constraint index k was logged: the counter rose; if it holds, the failures are unchanged, else its
+-- failure was added
 abbrev pub LogsOne : ℕ → ℕ → ℕ → (Option (List ℕ) → Type 0) → Bool → List ConstraintFailure → List ConstraintFailure → Type 0
 LogsOne row k n says true fs gs = (n ≡ k + 1) × (gs ≡ fs)
 LogsOne row k n says false fs gs = (n ≡ k + 1) × LogsFailure row k says fs gs
