@@ -8,7 +8,7 @@ use Rattle.air_builder.specs.Builders.{MeansIn, BuilderView, RingLaws, BuilderLa
 use Rattle.air_builder.specs.Extensions.{ExtensionView, ExtensionRingLaws}
 use Rattle.air_author.specs.Expressions.{MakesTerm}
 
--- a `?` gives up at what was to be lifted
+-- a `?` returns the error of making the expression that was to be lifted
 pub lift_gives_up : {S B E F X : Type 0} {base : S → B → Term F → Type 0} {means : S → E → Term F → Type 0}
     {grew : S → S → List (Assertion F) → Type 0} {missing : S → Leaf → Type 0}
     {refuses : S → X → List (Assertion F) → Type 0} {a b : S} {e : X} {r : Result E X} {t : Term F}
@@ -17,7 +17,7 @@ lift_gives_up {r = r} i h =
     let f = err_from_is_err_and r i in
     rw (f.1, f.2) (record { keeps = h.keeps; made = tt; there = tt; refused = h.refused })
 
--- what was made is in the base of the ring over the extension
+-- a made element is in the base of the ring over the extension
 pub made_in_base : {S R X B E F : Type 0} {view : BuilderView S R B F} {over : ExtensionView S X B E F} (ring : RingLaws view)
     (laws : BuilderLaws view) (extension : ExtensionRingLaws view over) (a b : S) (q : X) (x : B) (t : Term F) → view.ready a
     → MakesTerm (MeansIn view) view.grew view.missing view.refuses a b (Ok x) t → q ≡ over.ring_of b → over.base_has q x

@@ -1,4 +1,4 @@
--- The label of what is made and then asserted under a name.
+-- The label of an expression that is made and then asserted under a name.
 use Rattle.std.proofs.Common.{ℕ, List, [], ◌∷◌, Option, Result, Ok, Err, OnOk, OnErr, refl}
 use Rattle.air_field.specs.Term.{Leaf, Term}
 use Rattle.air_core.specs.declared.errors.AirError.{AirError}
@@ -12,7 +12,7 @@ use Rattle.air_author.specs.Expressions.{MakesTerm}
 module _ {S E F : Type 0} {grew : S → S → List (Assertion F) → Type 0} {labelled : S → S → List (Labelled F) → Type 0}
     (named : NamedLaws grew labelled) {means : S → E → Term F → Type 0} {missing : S → Leaf → Type 0}
     {refuses : S → AirError → List (Assertion F) → Type 0} {says : Option (List ℕ) → Type 0} where
-  -- it has the label of its name
+  -- the assertion has the label of its name
   pub made_then_labelled : (one : Term F → Assertion F) (a b d : S) (x : E) (r : Result (Unit {0}) AirError) (t : Term F)
       → MakesTerm means grew missing refuses a b (Ok x) t
       → LabelledEach (AssertsOf one means (λ t. t)) labelled (λ i. says) b d (x ∷ []) r
@@ -26,7 +26,7 @@ module _ {S E F : Type 0} {grew : S → S → List (Assertion F) → Type 0} {la
       }
   made_then_labelled one a b d x (Err e) t h k = tt
 
-  -- where it was refused, nothing has
+  -- where the assertion was refused, nothing is labelled
   pub made_then_refused : (one : Term F → Assertion F) (a b d : S) (x : E) (r : Result (Unit {0}) AirError) (t : Term F)
       → MakesTerm means grew missing refuses a b (Ok x) t
       → LabelledEach (AssertsOf one means (λ t. t)) labelled (λ i. says) b d (x ∷ []) r

@@ -1,21 +1,21 @@
--- What constraints assert, and under which labels.
+-- The assertions of constraints, and their labels.
 use Rattle.std.specs.Prelude.{ℕ, zero, suc, List, [], ◌∷◌, ◌++◌, Option}
 use Rattle.air_builder.specs.Assertion.{Assertion}
 use Rattle.air_builder.specs.Labels.{Label, Labelled, IsSaid}
 
--- the assertion was made under a label that is one that its name may display
+-- the assertion was made under a label that the name may display
 pub record IsLabelled {S F : Type 0} (labelled : S → S → List (Labelled F) → Type 0)
     (says : Option (List ℕ) → Type 0) (a b : S) (s : Assertion F) : Type 0 where
   pub label : Label
   pub said : IsSaid says label
   pub grown : labelled a b ((s, label) ∷ [])
 
--- what each element asserts, in order
+-- the assertions of each element, in order
 abbrev pub asserts_of_each : {C A : Type 0} → (C → List A) → List C → List A
 asserts_of_each f [] = []
 asserts_of_each f (c ∷ cs) = f c ++ asserts_of_each f cs
 
--- what is asserted at each index below a count, in order
+-- the assertions at each index below a count, in order
 abbrev pub asserts_of_first : {A : Type 0} → (ℕ → List A) → ℕ → List A
 asserts_of_first f zero = []
 asserts_of_first f (suc n) = asserts_of_first f n ++ f n

@@ -1,4 +1,4 @@
--- What is known of an expression that was made, where it is handed to a gadget.
+-- Expressions that were made and then passed to a gadget.
 use Rattle.std.proofs.Common.{arith}
 use Rattle.std.specs.Prelude.{◌<◌, List, [], length, take, Result, Ok, Err, ⊤}
 use Rattle.air_field.specs.Term.{Leaf, Term, leaf_term, const_term, ext_const_term, add_term, sub_term, neg_term, mul_term}
@@ -23,7 +23,7 @@ each_weaker (mul_term t u) f h = (each_weaker t f h.0, each_weaker u f h.1)
 module _ {S R E F : Type 0} {view : BuilderView S R E F} (ring : RingLaws view) (laws : BuilderLaws view) where
   open view use {kept, grew, missing, refuses}
 
-  -- what was made means its term, and will
+  -- a made element means its term, now and later
   pub made_lasts : (a b : S) (x : E) (t : Term F) → MakesTerm (MeansIn view) grew missing refuses a b (Ok x) t
       → AlwaysAfter kept (IsUsable (MeansIn view) missing x t) b
   made_lasts a b x t h d k =
@@ -37,7 +37,7 @@ module _ {S R B E F : Type 0} {view : BuilderView S R B F} {means : S → E → 
     (laws : BuilderLaws view) where
   open view use {kept, grew, missing, refuses}
 
-  -- it wasn't made, so that nothing was asserted of what it is a part of
+  -- the element wasn't made, so nothing was asserted of a list that has its term as a part
   pub making_refused : (a b : S) (e : AirError) (t : Term F) (ts : List (Assertion F)) → 0 < length ts → PartOf t ts
       → MakesTerm means grew missing refuses a b (Err e) t → AssertedList kept grew missing refuses a b (Err e) ts
   making_refused a b e t ts some part h = record {
@@ -50,7 +50,7 @@ module _ {S R B E F : Type 0} {view : BuilderView S R B F} {means : S → E → 
     there = tt;
   }
 
-  -- it was made, and then the list was asserted
+  -- the element was made, and then the list was asserted
   pub made_then : (a b d : S) (x : E) (r : Result ⊤ AirError) (t : Term F) (ts : List (Assertion F))
       → MakesTerm means grew missing refuses a b (Ok x) t → AssertedList kept grew missing refuses b d r ts
       → AssertedList kept grew missing refuses a d r ts

@@ -1,4 +1,4 @@
--- Words for what an AIR declares, beside those of the notation: numbers and powers, and further claims.
+-- Further words for a declaration, beside the notation: numbers, powers and claims.
 use Rattle.std.specs.Prelude.{ℕ, List}
 use Rattle.air_field.specs.Ring.{CommRing, image}
 use Rattle.air_field.specs.Term.{Term}
@@ -14,7 +14,7 @@ module _ {F : Type 0} where
   abbrev pub number : CommRing F → ℕ → Term F
   number R n = constant (image R n)
 
-  -- x + x, x x, and the product of so many of x
+  -- x + x, x x, and the n-fold product of x
   abbrev pub double : Term F → Term F
   double x = double_term x
 
@@ -24,7 +24,7 @@ module _ {F : Type 0} where
   abbrev pub to_power : CommRing F → Term F → ℕ → Term F
   to_power R x n = power_term R.one x n
 
-  -- x is one; the same over the extension; there, x is zero or one
+  -- x is one; over the extension: x is one, x is zero or one
   abbrev pub is_one : CommRing F → Term F → List (Assertion F)
   is_one R x = is_zero (less_one_term R.one x)
 
@@ -34,6 +34,6 @@ module _ {F : Type 0} where
   abbrev pub ext_boolean : CommRing F → Term F → List (Assertion F)
   ext_boolean R x = ext_is_zero (bool_check_term R.one x)
 
-  -- what is said at each index below a count, in order
+  -- the assertions at each index below a count, in order
   abbrev pub each_below : ℕ → (ℕ → List (Assertion F)) → List (Assertion F)
   each_below n at = asserts_of_first at n

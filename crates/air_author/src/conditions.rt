@@ -1,4 +1,4 @@
-//! Where constraints hold. An author writes `When`; these are what it hands to the constraints inside.
+//! Where constraints hold. An author writes `When`, which passes these to the constraints inside.
 ghost use Rattle.std.specs.Prelude.{⊤};
 ghost use Rattle.air_field.specs.Term.{Term};
 ghost use Rattle.air_builder.specs.Notation.{◌⊙◌};
@@ -11,19 +11,19 @@ use crate::expressions::{Expression, ExtExpression};
 use air_builder::{AirBuilder, ExtensionBuilder, View, ViewOver};
 use air_field::Algebra;
 
-/// Where an expression is to be zero.
+/// The condition under which an expression is to be zero.
 pub trait Condition<AB: AirBuilder> {
-    /// A base term under the condition: their product, and everywhere the term itself.
+    /// A base term under the condition: their product, or the term itself for `Everywhere`.
     ghost under: { Self → Term AB.F → Term AB.F };
 
     /// An extension term under the condition.
     ghost ext_under: { Self → Term AB.F → Term AB.F };
 
-    /// Every expression inside that was made before was made by this builder, and still means its value's term there.
+    /// Every prebuilt expression inside was made by this builder and still has its value's term there.
     ghost usable: { Self → AB → Type 0 } = { λ _ _. ⊤ };
 
-    /// Makes the product of the condition and `x`: it vanishes on every row exactly if `x` vanishes wherever the
-    /// condition doesn't, in a field.
+    /// Makes the product of the condition and `x`. In a field, it vanishes on every row exactly if `x` vanishes on
+    /// every row where the condition doesn't.
     fn make_under<X: Expression<AB>>(&self, builder: &mut AB, x: &X) -> AirResult<AB::Expr>
         requires ready { AB.ready builder.old }
         requires usable { AlwaysAfter AB.kept (λ b. usable self.now b × X.usable x.now b)
@@ -31,7 +31,7 @@ pub trait Condition<AB: AirBuilder> {
         ensures { MakesIn ⟦<AB as View>⟧.view builder.old builder.new result
             (under self.now (X.term x.now)) };
 
-    /// The same over the extension.
+    /// Makes the product of the condition and `x`, over the extension.
     fn make_ext_under<X: ExtExpression<AB>>(&self, builder: &mut AB, x: &X) -> AirResult<AB::ExprEF>
     where
         AB: ExtensionBuilder,
@@ -42,7 +42,7 @@ pub trait Condition<AB: AirBuilder> {
             (ext_under self.now (X.ext_term x.now)) };
 }
 
-/// Everywhere.
+/// No condition.
 #[derive(Clone, Copy, Drop)]
 pub struct Everywhere;
 
@@ -65,7 +65,7 @@ impl<AB: AirBuilder> Condition<AB> for Everywhere {
     }
 }
 
-/// Where a condition holds and a selector isn't zero.
+/// A condition and a selector inside it, which multiplies first.
 #[derive(Clone, Copy, Drop)]
 pub struct Where<'a, K, S>(pub(crate) &'a K, pub(crate) &'a S);
 

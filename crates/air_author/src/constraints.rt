@@ -1,4 +1,4 @@
-//! Constraints as values, each of a small type of its own that knows what it asserts.
+//! Constraints as values; each has a small type of its own that knows its assertions.
 ghost use Rattle.std.specs.Prelude.{⊤, List};
 ghost use Rattle.air_field.specs.Term.{Term};
 ghost use Rattle.air_builder.specs.Assertion.{Assertion};
@@ -18,16 +18,16 @@ pub mod when;
 
 /// Constraints, in order.
 pub trait Constraint<AB: AirBuilder> {
-    /// The assertions, in order. The two functions put the conditions that stand around a base and an extension term;
-    /// at the top, both are the identity.
+    /// The assertions, in order. The two functions put a base term and an extension term under the surrounding
+    /// conditions; at the top, both are the identity.
     ghost asserts: { Self → (Term AB.F → Term AB.F) → (Term AB.F → Term AB.F) → List
         (Assertion AB.F) };
 
-    /// Every expression inside that was made before was made by this builder, and still means its value's term there.
-    /// Constraints without one owe nothing.
+    /// Every prebuilt expression inside was made by this builder and still has its value's term there. Trivial for
+    /// constraints without one.
     ghost usable: { Self → AB → Type 0 } = { λ _ _. ⊤ };
 
-    /// Asserts them where the condition holds.
+    /// Asserts them under the condition.
     fn assert_under<K: Condition<AB>>(&self, builder: &mut AB, condition: &K) -> AirResult
         requires ready { AB.ready builder.old }
         requires usable { AlwaysAfter AB.kept (λ b. usable self.now b × K.usable condition.now b)
@@ -47,7 +47,7 @@ impl<'a, AB: AirBuilder, C: Constraint<AB>> Constraint<AB> for &'a C {
     }
 }
 
-/// Asserts the constraints; more may follow.
+/// Asserts the constraints; the caller may assert more.
 #[inline(always)]
 pub fn assert_these<AB: AirBuilder, C: Constraint<AB>>(
     builder: &mut AB,
@@ -61,7 +61,7 @@ pub fn assert_these<AB: AirBuilder, C: Constraint<AB>>(
     constraints.assert_under(builder, &Everywhere)
 }
 
-/// Asserts the constraints, as an AIR's `eval` is to.
+/// Asserts the constraints, with the contract of `Air::eval`.
 #[inline(always)]
 pub fn assert_all<AB: AirBuilder, C: Constraint<AB>>(builder: &mut AB, constraints: &C) -> AirResult
     requires ready { AB.ready builder.old }

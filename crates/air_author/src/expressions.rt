@@ -1,4 +1,4 @@
-//! Expressions as values, each of a small type of its own that knows its term.
+//! Expressions as values; each has a small type of its own that knows its term.
 ghost use Rattle.std.specs.Prelude.{◌≡◌, ⊤, Some, None, IfOk, IfErr, slice_get};
 ghost use Rattle.air_field.specs.Term.{Term};
 ghost use Rattle.air_author.specs.Expressions.{MakesIn, AlwaysAfter, air_result};
@@ -19,10 +19,10 @@ pub mod selectors;
 
 /// An expression of base constraints.
 pub trait Expression<AB: AirBuilder> {
-    /// What the expression means.
+    /// The term that the expression means.
     ghost term: { Self → Term AB.F };
 
-    /// What it holds ready-made is of the builder, and means what it should there.
+    /// Every prebuilt expression inside was made by this builder and still has its value's term there.
     ghost usable: { Self → AB → Type 0 } = { λ _ _. ⊤ };
 
     /// Makes it in the builder's ring. Nothing is asserted.
@@ -34,10 +34,10 @@ pub trait Expression<AB: AirBuilder> {
 
 /// An expression of constraints over the extension.
 pub trait ExtExpression<AB: ExtensionBuilder> {
-    /// What the expression means.
+    /// The term that the expression means.
     ghost ext_term: { Self → Term AB.F };
 
-    /// What it holds ready-made is of the builder, and means what it should there.
+    /// Every prebuilt expression inside was made by this builder and still has its value's term there.
     ghost usable: { Self → AB → Type 0 } = { λ _ _. ⊤ };
 
     /// Makes it in the builder's ring over the extension. Nothing is asserted.
@@ -70,7 +70,7 @@ impl<'a, AB: ExtensionBuilder, X: ExtExpression<AB>> ExtExpression<AB> for &'a X
     }
 }
 
-/// What a ring answered, as its builder answers it.
+/// A ring's answer as its builder's: the error is converted.
 #[inline(always)]
 pub fn to_air_result<E: Copy>(answer: Result<E, RingError>) -> AirResult<E>
     ensures { result ≡ air_result answer }
@@ -81,7 +81,7 @@ pub fn to_air_result<E: Copy>(answer: Result<E, RingError>) -> AirResult<E>
     }
 }
 
-/// The entry, or the refusal that names it.
+/// The entry, or else the error that names it.
 #[inline(always)]
 pub(crate) fn entry_or<T: Copy>(found: Option<T>, missing: AirError) -> AirResult<T>
     ensures ok { IfOk result (λ x. found ≡ Some x) }
@@ -93,7 +93,7 @@ pub(crate) fn entry_or<T: Copy>(found: Option<T>, missing: AirError) -> AirResul
     }
 }
 
-/// The element of this index, if there is one.
+/// The element at this index, if there is one.
 #[inline(always)]
 pub(crate) fn element<T: Copy>(row: &[T], index: usize) -> Option<T>
     ensures { result ≡ slice_get row.now index }

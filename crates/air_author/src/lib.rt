@@ -1,25 +1,28 @@
-//! Constraints as values: an author of an AIR writes its declared list and one call, and no proof.
+//! Constraints as values: the author of an AIR writes its declared list and one call, and no proof.
 //!
-//! An expression is a value of a small type that knows its term, as `Sum(Current(0), Current(1))`, which
-//! `current(0) + current(1)` answers; a constraint is one of a small type that knows what it asserts, as
-//! `Equal(Next(1), x)`, which `next(1).equals(x)` answers. In `eval` an author writes
+//! An expression is a value of a small type that knows its term: `current(0) + current(1)` is `Sum(Current(0),
+//! Current(1))`. A constraint is a value of a small type that knows its assertion: `next(1).equals(x)` is
+//! `Equal(Next(1), x)`. In `eval` an author writes
 //!
 //!     let (a, b) = (current(0), current(1));
 //!     let first = When(FirstRow, (a.equals(public(0)), b.equals(public(1))));
 //!     let steps = When(Transition, (next(0).equals(b), Named("sum", next(1).equals(a + b))));
 //!     assert_all(builder, &(first, steps))
 //!
-//! and the prover finds that this is the declared list, by computation. Tuples are constraints one after another, up to
-//! five; `Each` is those of a slice, and `All` those of a `Family`, which an index numbers. A `When` inside another
-//! multiplies first. Over the extension, `ExtZero`, `ExtEqual`, `ExtIsOne` and `ExtBoolean` take the same expressions,
-//! of `permutation_current(i)`, `challenge(i)` and so on, and of base leaves.
+//! The prover finds by computation that this is the declared list. A tuple of up to five constraints asserts them in
+//! order; `Each` asserts those of a slice, and `All` those of a `Family`, which an index numbers. In nested `When`s the
+//! inner selector multiplies first. Over the extension, `ExtZero`, `ExtEqual`, `ExtIsOne` and `ExtBoolean` take
+//! expressions such as `permutation_current(i)` and `challenge(i)`, and base leaves.
 //!
-//! Bits, words and their sums are in air_gadgets. An AIR with nothing beside its trace is a [`PlainAir`]. What a filter
-//! or a gadget was handed stands among values as `Already(x, value)`, with the value that it was made of.
+//! Bits, words and their sums are in air_gadgets. An AIR with only a main trace and public values is a [`PlainAir`]. To
+//! use an expression `x` that a filter or a gadget was given, write `Already(x, value)`, where `value` is the value
+//! from which it was made.
 //!
-//! An entry that the builder hasn't is refused by its name, and an entry of the permutation trace with `NoPermutation`
-//! where the builder has no such trace. A function proves about five constraints quickly; further
-//! ones go into structs whose `assert_under` only delegates to a value as above.
+//! Calls fail only as the builder's `refuses` allows, or with `Memory`. An entry that the builder lacks is refused by
+//! its name, and an entry of the permutation trace with `NoPermutation` if the builder has no such trace.
+//!
+//! A function proves about five constraints quickly; put further ones into structs whose `assert_under` only delegates
+//! to a value as above.
 #![tactic(auto)]
 
 pub mod conditions;
@@ -61,5 +64,5 @@ pub use operators::leaves::{
 };
 pub use plain::{Plain, PlainAir, PlainConstraints};
 
-/// What making an expression or asserting constraints answers.
+/// The result of making an expression or of asserting constraints.
 pub type AirResult<T = ()> = Result<T, AirError>;

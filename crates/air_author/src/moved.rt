@@ -1,4 +1,4 @@
-//! An AIR's constraints as a value among another's, on columns further right.
+//! An AIR's constraints as a value in another AIR, on columns further right.
 ghost use Rattle.std.specs.Prelude.{⊤, ◌^◌, ◌<◌};
 ghost use Rattle.air_builder.specs.Batches.{AssertedIn};
 ghost use Rattle.air_author.specs.Expressions.{AlwaysAfter};
@@ -10,13 +10,13 @@ use crate::constraints::Constraint;
 use crate::plain::PlainAir;
 use air_builder::{AirBuilder, View};
 
-/// A plain AIR whose constraints may stand among another's.
+/// A plain AIR whose constraints may be part of another AIR.
 ///
-/// A builder names a missing column by the number that it was asked for. So an AIR that is to stand further right counts
-/// its columns from the first one that it is handed, and no builder has to be told that it moved.
+/// A builder's error names a missing column by the index that it was asked for. So a moved AIR counts its columns from
+/// `columns` on, and the builder needn't know of the move.
 pub trait MovableConstraints<AB: AirBuilder>: PlainAir<AB::F> {
-    /// Asserts the AIR's own constraints on columns further right, column i of them being column `columns` + i, where the
-    /// condition holds. Public values and what else a constraint reads stay where they are.
+    /// Asserts the AIR's own constraints under the condition, with column i of the main trace read as column `columns`
+    /// + i. Public values and the other leaves don't move.
     fn assert_moved<K: Condition<AB>>(
         &self,
         columns: usize,
@@ -31,7 +31,7 @@ pub trait MovableConstraints<AB: AirBuilder>: PlainAir<AB::F> {
             (Self.plain self.now).0) };
 }
 
-/// The constraints of an AIR on columns further right: column i of them is column `columns` + i.
+/// The constraints of an AIR on columns further right: its column i is column `columns` + i.
 #[derive(Drop)]
 pub struct Moved<A> {
     pub columns: usize,

@@ -117,7 +117,7 @@ impl<X> Neg for E<X> {
 }
 
 impl<X> E<X> {
-    /// Both are equal.
+    /// The claim that both are equal.
     #[inline(always)]
     pub fn equals<Y>(self, other: E<Y>) -> Equal<X, Y>
         ensures { result ≡ record { 0 = self.0; 1 = other.0 } }
@@ -125,7 +125,7 @@ impl<X> E<X> {
         Equal(self.0, other.0)
     }
 
-    /// Both, over the extension, are equal.
+    /// The claim, over the extension, that both are equal.
     #[inline(always)]
     pub fn ext_equals<Y>(self, other: E<Y>) -> ExtEqual<X, Y>
         ensures { result ≡ record { 0 = self.0; 1 = other.0 } }
@@ -149,7 +149,7 @@ impl<X> E<X> {
         E(Square(self.0))
     }
 
-    /// The product of so many of x, from the left; of none, one.
+    /// The `exponent`-fold product of x, from the left; one for exponent 0.
     #[inline(always)]
     pub fn power(self, exponent: usize) -> E<Power<X>>
         ensures { result ≡ record { 0 = record { 0 = self.0; 1 = exponent } } }

@@ -18,7 +18,7 @@ use Rattle.air_builder.specs.laws.Labels.{labelled_one, one_label, no_label}
 use Rattle.air_builder.specs.laws.Growth.{means_in, lent_means, refuses_part, lent_asserted, making_refused}
 use Rattle.air_builder.specs.laws.LabelGrowth.{NamedOne, lent_named, making_unnamed}
 
--- what an element asserts in the builder inside, under a condition that an element of it means
+-- an assertion that the filter makes in the builder inside: the element's own, under the term that the condition means
 pub record AssertsUnder {S B I F : Type 0} (means : S → B → Term F → Type 0) (asserts : S → I → Assertion F → Type 0)
     (a : S) (p : B × I) (s : Assertion F) : Type 0 where
   pub condition : Term F
@@ -31,7 +31,7 @@ module _ {S B F I N P X : Type 0} {kept : S → S → Type 0} {grew : S → S �
     {refuses : S → X → List (Assertion F) → Type 0} {means : S → B → Term F → Type 0}
     {asserts : S → I → Assertion F → Type 0} (inner : P → S) (name : P → N) (condition : P → B) {p q : P} {x : I}
     (name_is : name q ≡ name p) (condition_is : condition q ≡ condition p) where
-  -- what was asserted inside under the condition was asserted on the filter
+  -- an assertion inside under the condition is an assertion on the filter
   asserted_inside : (result : Result (Unit {0}) X)
       → AssertedEach (AssertsUnder means asserts) kept grew refuses (inner p) (inner q) ((condition p, x) ∷ []) result
       → AssertedEach (λ f. asserts (inner f))
@@ -51,7 +51,7 @@ module _ {S B F I N P : Type 0} {kept : S → S → Type 0} {labelled : S → S 
     {means : S → B → Term F → Type 0} {asserts : S → I → Assertion F → Type 0} {says : Option (List ℕ) → Type 0}
     (inner : P → S) (name : P → N) (condition : P → B) {p q : P} {x : I}
     (keeps : KeptInside kept (name p) (name q) (condition p) (condition q) (inner p) (inner q)) where
-  -- the same of its labels
+  -- an assertion inside under a label is an assertion on the filter under that label
   labelled_inside : (result : Result (Unit {0}) AirError)
       → LabelledEach (AssertsUnder means asserts) labelled (λ i. says) (inner p) (inner q) ((condition p, x) ∷ []) result
       → LabelledEach (λ f. asserts (inner f))
@@ -64,19 +64,19 @@ module _ {S B F I N P : Type 0} {kept : S → S → Type 0} {labelled : S → S 
       tt
   labelled_inside (Err e) h = labelled_one (Err e) tt (record { keeps = keeps; by = λ c m. no_label h })
 
--- A filter has the ring that it lends make z of x under the condition, and asserts z inside; or the ring refuses. What is
--- made of a term under the condition's is `under`, and `held` what the condition means in the ring.
+-- The lent ring makes z from x under the condition, and z is asserted inside; or the ring refuses. `under` is the operation
+-- on the two terms, and `held` holds of the condition's term in the ring.
 module _ {S R B E F N P : Type 0} {view : BuilderView S R E F} (ring : RingLaws view) (laws : BuilderLaws view)
     (kind : Term F → Assertion F) (under : Term F → Term F → Term F)
     (is_under : (c t : Term F) → filter_by c (kind t) ≡ kind (under c t))
     (inner : P → S) (name : P → N) (condition : P → B) (means : S → B → Term F → Type 0) where
   open view use {ring_refuses, with_ring, reads_as, kept, grew, refuses}
 
-  -- what x asserts inside under the condition
+  -- the assertion of x inside, under the condition
   abbrev Under : S → B × E → Assertion F → Type 0
   Under = AssertsUnder means (AssertsOf kind (MeansIn view) (λ t. t))
 
-  -- what the filter asserts of x, and how it grows
+  -- the assertion of x on the filter, and how the filter grows
   abbrev Here : P → E → Assertion F → Type 0
   Here f = AssertsOf kind (MeansIn view) (λ t. t) (inner f)
 

@@ -1,12 +1,12 @@
--- What an AIR says of itself.
+-- The declaration of an AIR.
 use Rattle.std.specs.Prelude.{ℕ, List, [], Option, None, Some, Vec}
 use Rattle.std.specs.Global.{Global}
 use Rattle.air_field.specs.Grid.{Grid}
 use Rattle.air_builder.specs.Assertion.{Assertion}
 use Rattle.air_core.specs.declared.boundary.BoundaryPublic.{BoundaryPublic}
 
--- The declared constraints, in order; how many columns the main trace and how many public values there are; the
--- preprocessed table, if there is one; the periodic columns, each the values of one period; and the cells of the main trace
+-- The declared constraints, in order; the number of columns of the main trace and of public values; the preprocessed trace,
+-- if there is one; the periodic columns, each the values of one period; and the boundary values: cells of the main trace
 -- that hold public values.
 pub record Declaration (F : Type 0) : Type 0 where
   pub constraints : List (Assertion F)
@@ -16,7 +16,7 @@ pub record Declaration (F : Type 0) : Type 0 where
   pub periodic : List (Vec F Global)
   pub cells : List BoundaryPublic
 
--- constraints on a main trace of this width and so many public values, and nothing beside
+-- constraints on a main trace of this width, with `public` public values, and nothing else
 abbrev pub plain_declaration : {F : Type 0} → List (Assertion F) → ℕ → ℕ → Declaration F
 plain_declaration ts width public = record {
   constraints = ts;
@@ -27,7 +27,7 @@ plain_declaration ts width public = record {
   cells = [];
 }
 
--- the number of columns of a table, 0 without one
+-- the number of columns of a preprocessed trace, 0 without one
 abbrev pub table_width : {F : Type 0} → Option (Grid F) → ℕ
 table_width None = 0
 table_width (Some table) = table.width

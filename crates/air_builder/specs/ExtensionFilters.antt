@@ -2,11 +2,11 @@
 use Rattle.air_field.specs.Term.{Term, mul_term}
 use Rattle.air_builder.specs.Extensions.{ExtensionView}
 
--- z is an element that means what x meant times what the condition c meant in the base
+-- z is an element that means the term of x times the term of the condition c in the base
 abbrev pub MadeUnder : {R E B F : Type 0} → (R → E → Type 0) → (R → E → Term F → Type 0) → (R → B → Term F → Type 0) → R → R → B → E → E → Type 0
 MadeUnder {F = F} has means base_means old new c x z = has new z × ((s t : Term F) → base_means old c s → means old x t → means new z (mul_term t s))
 
--- the making of it may answer e
+-- the product of x and the condition c may be refused with e
 abbrev pub RefusedUnder : {R E B F X : Type 0} → (R → E → Term F → Type 0) → (R → B → Term F → Type 0) → (X → Term F → Type 0) → R → B → E → X → Type 0
 RefusedUnder {F = F} means base_means refuses old c x e = (s t : Term F) → base_means old c s → means old x t → refuses e (mul_term t s)
 

@@ -1,4 +1,4 @@
--- What a builder keeps of its ring over the extension.
+-- The laws of a builder's ring over the extension.
 use Rattle.std.specs.Prelude.{◌≡◌, ◌⊎◌, ℕ, List, []}
 use Rattle.air_field.specs.Term.{Term, permutation, with_leaves}
 use Rattle.air_field.specs.declared.errors.RingError.{RingError}
@@ -9,13 +9,13 @@ use Rattle.air_builder.specs.Builders.{BuilderView}
 use Rattle.air_core.specs.Errors.{air_error}
 use Rattle.air_builder.specs.Refusals.{PartOf}
 
--- why there is no window of the permutation trace: the builder may refuse before any assertion, or it has no permutation
--- column
+-- why there is no window of the permutation trace: the builder may refuse even without an assertion, or it has no
+-- permutation column
 abbrev pub RefusesWindow : {S R E F : Type 0} → BuilderView S R E F → S → AirError → Type 0
 RefusesWindow view a e = view.refuses a e [] ⊎ ((e ≡ NoPermutation) × ((o i : ℕ) → view.missing a (permutation o i)))
 
--- A builder's ring over the extension as the laws see it: the ghost members of this ring, whose refusals are
--- `ring_refuses`, the ring that the builder lends, and the builder with another one.
+-- A builder's view of its ring over the extension: the ghost members of this ring, whose refusals are `ring_refuses`, the
+-- lent ring, and the builder with another one.
 pub record ExtensionView (S X B E F : Type 0) : Type 1 where
   pub valid : X → Type 0
   pub has : X → E → Type 0
@@ -27,7 +27,7 @@ pub record ExtensionView (S X B E F : Type 0) : Type 1 where
   pub ring_of : S → X
   pub with_ring : S → X → S
 
--- the builder with its ring over the extension in the place of its base ring
+-- the builder's view with its ring over the extension in place of its base ring
 abbrev pub over_view : {S R X B E F : Type 0} → BuilderView S R B F → ExtensionView S X B E F → BuilderView S X E F
 over_view view over = record {
   valid = over.valid;
@@ -45,8 +45,8 @@ over_view view over = record {
   refuses = view.refuses;
 }
 
--- What every builder keeps of its ring over the extension. Lending it grows nothing; what it kept, it still has; what
--- is in the base ring is in the base of this one, and means there what it means.
+-- The laws of every builder's ring over the extension. Lending it grows nothing; what it had, it still has; an element of
+-- the base ring is in the base of this one, and means the same term there.
 pub record ExtensionRingLaws {S R X B E F : Type 0} (view : BuilderView S R B F) (over : ExtensionView S X B E F)
     : Type 0 where
   pub ext_ring_lent : (a : S) (r : X) → over.extends (over.ring_of a) r → view.grew a (over.with_ring a r) []

@@ -6,13 +6,13 @@ use Rattle.air_builder.specs.declared.builders.filtered.FilteredAirBuilder.{Filt
 use Rattle.air_builder.specs.Assertion.{Assertion, filter_by}
 use Rattle.air_builder.specs.Builders.{MeansIn, BuilderView}
 
--- a filter stays on its builder, which keeps what it has
+-- a filter keeps its reference and condition, and the builder inside is kept
 pub record KeptInside {S E N : Type 0} (kept : S → S → Type 0) (n m : N) (x y : E) (a b : S) : Type 0 where
   pub same_reference : m ≡ n
   pub same_condition : y ≡ x
   pub inside : kept a b
 
--- the builder inside grew by what the condition makes of each of a list
+-- the builder inside grew by the list with each element put under the condition
 pub record GrewUnder {S E F A N : Type 0} (under : Term F → A → A) (kept : S → S → Type 0) (grew : S → S → List A → Type 0)
     (means : S → E → Term F → Type 0) (n m : N) (x y : E) (a b : S) (xs : List A) : Type 0 where
   pub keeps : KeptInside kept n m x y a b
@@ -23,20 +23,20 @@ abbrev pub RefusesUnder : {S E F X : Type 0} → (S → X → List (Assertion F)
     → List (Assertion F) → Type 0
 RefusesUnder {F = F} refuses means x a e ts = (c : Term F) → means a x c → refuses a e (map (filter_by c) ts)
 
--- a builder, as its laws see it, that is inside a filter grew by the condition times each term
+-- the builder inside, by its view, grew by the condition times each term
 abbrev pub GrewInside : {S R E F N : Type 0} → BuilderView S R E F → N → N → E → E → S → S → List (Assertion F) → Type 0
 GrewInside view n m x y a b ts = GrewUnder filter_by view.kept view.grew (MeansIn view) n m x y a b ts
 
--- and may refuse that
+-- the builder inside, by its view, may refuse the condition times each term
 abbrev pub RefusesInside : {S R E F : Type 0} → BuilderView S R E F → E → S → AirError → List (Assertion F) → Type 0
 RefusesInside view x a e ts = RefusesUnder view.refuses (MeansIn view) x a e ts
 
--- what a filter multiplies each assertion by
+-- the factor of each assertion of a filter
 abbrev pub condition_of : {S F E V P Q W M R : Type 0} → FilteredAirBuilder S F E V P Q W M R → E
 condition_of f = f.condition
 
--- What a call answers that filters by a selector: always a filter on the builder that is lent, which grew by nothing, and
--- whose condition means the selector's leaf.
+-- The answer of a call that filters by a selector: always a filter on the lent builder, which grew by nothing, and the
+-- condition means the selector's leaf.
 pub record FiltersBy {S R E F V P Q W M : Type 0} (view : BuilderView S R E F) (l : Leaf) (a : S) (name : ℕ)
     (result : Result (FilteredAirBuilder S F E V P Q W M R) AirError) : Type 0 where
   pub always : IsOk result
@@ -44,7 +44,7 @@ pub record FiltersBy {S R E F V P Q W M : Type 0} (view : BuilderView S R E F) (
   pub inner : IfOk result (λ f. view.grew a f.inner.now [])
   pub condition : IfOk result (λ f. MeansIn view f.inner.now f.condition (leaf_term l))
 
--- a filter, as the laws see it, of a builder that they see so
+-- a filter's view, from the view of the builder inside
 abbrev pub filter_view : {S R E F N P : Type 0} → BuilderView S R E F → (P → S) → (P → N) → (P → E) → (P → S → P)
     → BuilderView P R E F
 filter_view view inner name condition with_inner = record {

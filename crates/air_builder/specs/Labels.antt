@@ -7,7 +7,7 @@ use Rattle.air_builder.specs.Assertion.{Assertion}
 use Rattle.air_builder.specs.Batches.{AssertsOf, AssertsOfBoth}
 use Rattle.air_builder.specs.Builders.{BuilderView, MeansIn}
 
--- what became of an assertion's name: nothing asked for it, or it was evaluated and displays this text
+-- the label of an assertion: its name was not asked for, or was evaluated and displayed this text
 pub data Label : Type 0 where
   Unasked : Label
   Shown : Option (List ℕ) → Label
@@ -16,12 +16,12 @@ pub data Label : Type 0 where
 abbrev pub Labelled : Type 0 → Type 0
 Labelled F = Assertion F × Label
 
--- a label that was shown is one that the name may display
+-- a shown label is a text that the name may display
 abbrev pub IsSaid : (Option (List ℕ) → Type 0) → Label → Type 0
 IsSaid says Unasked = ⊤
 IsSaid says (Shown text) = says text
 
--- the same of labels in order, where `says i` is what the name at place i may display
+-- as `IsSaid`, for labels in order, where `says i` holds of the texts that the name at index i may display
 abbrev pub AreSaidFrom : (ℕ → Option (List ℕ) → Type 0) → ℕ → List Label → Type 0
 AreSaidFrom says i [] = ⊤
 AreSaidFrom says i (l ∷ ls) = IsSaid (says i) l × AreSaidFrom says (i + 1) ls
@@ -34,7 +34,7 @@ without_labels ls = map (λ l. l.0) ls
 abbrev pub GrewWithoutLabels : {S F : Type 0} → (S → S → List (Assertion F) → Type 0) → S → S → List (Labelled F) → Type 0
 GrewWithoutLabels grew a b ls = grew a b (without_labels ls)
 
--- the builder grew by what each element asserts, in order, the i-th under a label that the name at i may display
+-- the builder grew by each element's assertion, in order, the i-th under a label that the name at i may display
 pub record LabelledByEach {S I F : Type 0} (asserts : S → I → Assertion F → Type 0)
     (labelled : S → S → List (Labelled F) → Type 0) (says : ℕ → Option (List ℕ) → Type 0) (a b : S)
     (xs : List I) : Type 0 where
@@ -43,7 +43,7 @@ pub record LabelledByEach {S I F : Type 0} (asserts : S → I → Assertion F �
   pub said : AreSaidFrom says 0 labels
   pub grown : (ss : List (Assertion F)) → AllZip (asserts a) xs ss → labelled a b (zip ss labels)
 
--- the same, of some of the elements, the first ones and not all
+-- as `LabelledByEach`, for a strict prefix of the elements
 pub record LabelledByBeginning {S I F : Type 0} (asserts : S → I → Assertion F → Type 0)
     (labelled : S → S → List (Labelled F) → Type 0) (says : ℕ → Option (List ℕ) → Type 0) (a b : S)
     (xs : List I) : Type 0 where
@@ -51,25 +51,25 @@ pub record LabelledByBeginning {S I F : Type 0} (asserts : S → I → Assertion
   pub within : count < length xs
   pub beginning : LabelledByEach asserts labelled says a b (take count xs)
 
--- what a call that asserts each of xs under labels does to them: all of xs have theirs, or, where it refuses, the first
--- ones that the builder grew by
+-- the effect on the labels of a call that asserts each of xs: at Ok all of xs have labels; at an Err those of a strict
+-- prefix by which the builder grew
 pub record LabelledEach {S I F : Type 0} (asserts : S → I → Assertion F → Type 0)
     (labelled : S → S → List (Labelled F) → Type 0) (says : ℕ → Option (List ℕ) → Type 0) (a b : S)
     (xs : List I) (result : Result ⊤ AirError) : Type 0 where
   pub ok : OnOk result (LabelledByEach asserts labelled says a b xs)
   pub err : OnErr result (LabelledByBeginning asserts labelled says a b xs)
 
--- what a call that does what `Asserts` says does to the labels, in a builder that grows under labels as `labelled` says
+-- the effect on the labels of a call that `Asserts` describes, where `labelled` is the builder's growth under labels
 abbrev pub Labels : {S R E F : Type 0} → BuilderView S R E F → (S → S → List (Labelled F) → Type 0) → (Term F → Assertion F)
     → (Term F → Term F) → (ℕ → Option (List ℕ) → Type 0) → S → S → List E → Result ⊤ AirError → Type 0
 Labels view labelled kind op says a b xs result = LabelledEach (AssertsOf kind (MeansIn view) op) labelled says a b xs result
 
--- the same of pairs
+-- as `Labels`, for pairs
 abbrev pub LabelsBoth : {S R E F : Type 0} → BuilderView S R E F → (S → S → List (Labelled F) → Type 0) → (Term F → Assertion F)
     → (Term F → Term F → Term F) → (ℕ → Option (List ℕ) → Type 0) → S → S → List (E × E) → Result ⊤ AirError → Type 0
 LabelsBoth view labelled kind op says a b ps result = LabelledEach (AssertsOfBoth kind (MeansIn view) op) labelled says a b ps result
 
--- What every named builder keeps. Growth under labels is growth; growth by nothing leaves the labels.
+-- The laws of every named builder. Growth under labels is growth; growth by nothing leaves the labels.
 pub record NamedLaws {S F : Type 0} (grew : S → S → List (Assertion F) → Type 0) (labelled : S → S → List (Labelled F) → Type 0) : Type 0 where
   pub labelled_nothing : (a b : S) → grew a b [] → labelled a b []
   pub labelled_joined : (a b c : S) (xs ys : List (Labelled F)) → labelled a b xs → labelled b c ys → labelled a c (xs ++ ys)

@@ -6,7 +6,7 @@ use Rattle.air_builder.specs.Builders.{BuilderView, MeansIn}
 use Rattle.air_builder.specs.Filters.{GrewUnder}
 use Rattle.air_builder.specs.Labels.{Labelled}
 
--- a labelled assertion where a condition holds
+-- a labelled assertion under a condition
 abbrev pub filtered_label : {F : Type 0} → Term F → Labelled F → Labelled F
 filtered_label c l = (filter_by c l.0, l.1)
 

@@ -3,7 +3,7 @@ use Rattle.std.specs.Prelude.{List, [], Option, None, Some}
 use Rattle.air_field.specs.OneRow.{PermutationData}
 use Rattle.air_field.specs.declared.matrices.view.ViewPair.{ViewPair}
 
--- the rows of the permutation trace; without one they have no columns
+-- the two rows of the permutation trace; without a permutation trace they have no columns
 abbrev pub permutation_row : {E : Type 0} → Option (ViewPair E) → List E
 permutation_row None = []
 permutation_row (Some p) = p.top.values.now

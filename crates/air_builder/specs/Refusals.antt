@@ -1,4 +1,4 @@
--- Where a builder may refuse.
+-- Missing entries, the errors that name them, and the parts of assertions.
 use Rattle.std.specs.Prelude.{◌≡◌, ◌<◌, ◌≤◌, ◌⊎◌, ◌↔◌, ℕ, List, [], ◌∷◌, None, slice_get, ⊤}
 use Rattle.air_field.specs.Term.{Leaf, preprocessed, main, permutation, Term, leaf_term, const_term, ext_const_term, add_term, sub_term, neg_term, mul_term}
 use Rattle.air_field.specs.Part.{Part}
@@ -14,20 +14,19 @@ use Rattle.air_core.specs.declared.errors.AirError.TheVariants.{MissingEntry, Ro
 abbrev pub IsPermutation : Leaf → Type 0
 IsPermutation l = (o : ℕ) × (i : ℕ) × (l ≡ permutation o i)
 
--- a column of a row that no window has
+-- a column of the preprocessed or main trace in a row past the window
 abbrev pub IsPastWindow : ℕ → Leaf → Type 0
 IsPastWindow o l = (1 < o) × (i : ℕ) × ((l ≡ preprocessed o i) ⊎ (l ≡ main o i))
 
--- a window has the entry: a column is that of row 0 or 1
+-- the entry is in a window: a column's row offset is 0 or 1
 abbrev pub IsOfWindow : BaseEntry → Type 0
 IsOfWindow (Preprocessed o) = o ≤ 1
 IsOfWindow (Main o) = o ≤ 1
 IsOfWindow Periodic = ⊤
 IsOfWindow Public = ⊤
 
--- the error names a leaf, a column by its entry where a window has its row; an offset that no
--- window has names each column of that row, and that there is no permutation trace each of its
--- columns
+-- the error names the leaf. `MissingEntry` names an entry of a window, a periodic column or a public value;
+-- `MissingExtEntry` its entry; `RowOffset` every column of that row; `NoPermutation` every permutation column
 abbrev pub NamesLeaf : AirError → Leaf → Type 0
 NamesLeaf (MissingEntry e i) l = (l ≡ entry_leaf e i) × IsOfWindow e
 NamesLeaf (RowOffset o) l = IsPastWindow o l
@@ -35,7 +34,7 @@ NamesLeaf (MissingExtEntry e i) l = l ≡ ext_entry_leaf e i
 NamesLeaf NoPermutation l = IsPermutation l
 NamesLeaf _ l = ⊥
 
--- past the end of a row, and only there, its leaves are missing
+-- a leaf is missing exactly if its index is past the end of the row
 abbrev pub RowEnds : {V : Type 0} → (Leaf → Type 0) → (ℕ → Leaf) → List V → Type 0
 RowEnds missing at row = (i : ℕ) → missing (at i) ↔ (slice_get row i ≡ None)
 

@@ -1,4 +1,4 @@
--- Where a builder refuses to grow.
+-- The errors of a builder.
 use Rattle.std.specs.Prelude.{ℕ, List, ⊤}
 use Rattle.air_field.specs.Term.{Leaf, permutation, Term, leaf_term}
 use Rattle.air_core.specs.Entries.{entry_leaf}
@@ -8,10 +8,9 @@ use Rattle.air_builder.specs.Refusals.{IsOfWindow, IsPastWindow, PartOf}
 use Rattle.air_core.specs.declared.errors.AirError.{AirError}
 use Rattle.air_core.specs.declared.errors.AirError.TheVariants.{Memory, DegreeOverflow, CountOverflow, MissingEntry, RowOffset, MissingExtEntry, NoPermutation}
 
--- memory always; a degree, where a part of the assertions has too great a one; a count that is
--- full; a missing entry that a part names, of a row that a window has; an offset that no window
--- has, where a part names a missing column of that row; the permutation trace, where a part names
--- a missing column of it; nothing else
+-- `Memory` always; `DegreeOverflow`, if a part's degree is too great; `CountOverflow`, if the count is full; `MissingEntry`
+-- and `RowOffset`, if a part names such a missing entry, inside or past the window; `MissingExtEntry` and `NoPermutation`,
+-- if a part names such a missing entry; nothing else
 abbrev pub Refused : {F : Type 0} → (Leaf → Type 0) → (Term F → Type 0) → (List (Assertion F) → Type 0) → AirError → List (Assertion F) → Type 0
 Refused missing over full Memory ts = ⊤
 Refused {F = F} missing over full DegreeOverflow ts = (t : Term F) × (over t × PartOf t ts)

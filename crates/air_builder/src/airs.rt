@@ -1,4 +1,4 @@
-//! AIRs: what they declare, and how they tell it to a builder.
+//! AIRs: what they declare, and how they assert it on a builder.
 
 pub mod air;
 pub mod columns;

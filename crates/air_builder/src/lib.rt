@@ -1,4 +1,6 @@
 //! AIRs, the builders that receive their constraints, and filters.
+//!
+//! Calls fail only with `Memory` unless they say otherwise. Calls on a builder fail only as its `refuses` allows.
 #![tactic(auto)]
 
 pub mod airs;

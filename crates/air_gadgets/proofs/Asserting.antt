@@ -18,7 +18,7 @@ Then {F = F} is more ss = (xs : List (Assertion F)) × (ys : List (Assertion F))
 module _ {S R E F : Type 0} {view : BuilderView S R E F} (laws : BuilderLaws view) where
   open view use {reads_as, kept, grew, refuses}
 
-  -- what is said of some lists, of any that are among them
+  -- `AssertedSuch` for the lists of `was` holds for those of `is`, if each of these is one of those
   pub list_of : {is was : List (Assertion F) → Type 0} {a b : S} (result : Result (Unit {0}) AirError)
       → ((ss : List (Assertion F)) → is ss → was ss) → AssertedSuch was kept grew refuses a b result
       → AssertedSuch is kept grew refuses a b result
@@ -30,7 +30,7 @@ module _ {S R E F : Type 0} {view : BuilderView S R E F} (laws : BuilderLaws vie
     refused = λ ss i. h.refused ss (f ss i);
   }
 
-  -- what each element asserts makes a list
+  -- the assertions of each element, in order, make a list
   pub list_of_each : {I : Type 0} {asserts : S → I → Assertion F → Type 0} {a b : S} {xs : List I}
       (result : Result (Unit {0}) AirError) → AssertedEach asserts kept grew refuses a b xs result
       → AssertedSuch (AllZip (asserts a) xs) kept grew refuses a b result
@@ -90,7 +90,7 @@ module _ {S R E F : Type 0} {view : BuilderView S R E F} (laws : BuilderLaws vie
       } in
       list_of result (λ ss i. ([], ss, refl, i, refl)) (list_then result none h)
 
-  -- what is asserted over what stands at the leaves
+  -- assertions that depend on the builder only by how it reads the leaves
   module _ {I : Type 0} (over : (Leaf → Term F) → I → Assertion F → Type 0) where
     pub over_kept : (a b : S) → kept a b → (x : I) (s : Assertion F) → over (reads_as a) x s → over (reads_as b) x s
     over_kept a b k x s h = subst (λ l. over l x s) (sym (laws.reads_as_kept a b k)) h

@@ -1,4 +1,4 @@
--- summing weighted columns from the left, one by one
+-- Summing weighted columns from the left, one by one.
 use Rattle.std.proofs.Common.{◌≡◌, ◌∙◌, ℕ, suc, ◌+◌, ◌<◌, List, [], ◌∷◌, Some, All, length, map, drop, get_or, slice_get, refl, sym, ap, subst, drop-cons, add-one}
 use Rattle.std.proofs.lemmas.Option.{slice_get_within, get_or_from_slice_get}
 use Rattle.std.proofs.lemmas.List.Elements.{All-get_or}
@@ -13,23 +13,23 @@ use Rattle.air_gadgets.specs.declared.columns.pair_col.PairCol.{PairCol}
 use Rattle.air_gadgets.specs.declared.columns.pair_col.PairCol.TheVariants.{Preprocessed, Main}
 use Rattle.air_gadgets.specs.Columns.{entry_of, Combination, combined_term, ColumnsMean, MadeOfColumns, RefusedOfColumns}
 
--- the terms of the columns that are left
+-- the terms of the remaining columns
 abbrev pub terms_left : {F : Type 0} → (PairCol → Term F) → List (PairCol × F) → List (Term F)
 terms_left at left = map (λ w. scaled_term w.1 (at w.0)) left
 
--- total means a term, to which the columns that are left are added
+-- total means a term, and adding the remaining columns to it gives the goal
 pub record Led {E F : Type 0} (means : E → Term F → Type 0) (at : PairCol → Term F) (total : E) (left : List (PairCol × F)) (goal : Term F) : Type 0 where
   pub t : Term F
   pub total_means : means total t
   pub joined : join_from add_term t (terms_left at left) ≡ goal
 
--- total is the sum of what was taken, and the rest is left
+-- total is the sum so far, and `left` remains
 pub record IsCombining {R E F : Type 0} (has : R → E → Type 0) (means : R → E → Term F → Type 0) (extends : R → R → Type 0) (old new : R) (c : Combination F) (preprocessed main : List E) (total : E) (left : List (PairCol × F)) : Type 0 where
   pub extended : extends old new
   pub total_in : has new total
   pub leads : (at : PairCol → Term F) → ColumnsMean (means old) at preprocessed main → Led (means new) at total left (combined_term at c)
 
--- a part of what is summed first is a part of the sum
+-- a part of the first summand is a part of the sum
 part-join_from : {F : Type 0} (s t : Term F) (us : List (Term F)) → Part s t → Part s (join_from add_term t us)
 part-join_from s t [] h = h
 part-join_from s t (u ∷ us) h = part-join_from s (add_term t u) us (in_add_left h)
@@ -37,7 +37,7 @@ part-join_from s t (u ∷ us) h = part-join_from s (add_term t u) us (in_add_lef
 listed_in : {E : Type 0} (P : E → Type 0) (xs : List E) (i : ℕ) (x : E) → All P xs → slice_get xs i ≡ Some x → P x
 listed_in P xs i x h is = subst P (get_or_from_slice_get xs i x x is) (All-get_or P xs i x (slice_get_within xs i x is) h)
 
--- what stands in a column is one of the elements
+-- the entry in a column is one of the elements
 pub entry_in : {E : Type 0} (P : E → Type 0) (column : PairCol) (preprocessed main : List E) (x : E) → All P preprocessed → All P main → entry_of column preprocessed main ≡ Some x → P x
 entry_in P (Preprocessed i) preprocessed main x h k is = listed_in P preprocessed i x h is
 entry_in P (Main i) preprocessed main x h k is = listed_in P main i x k is
@@ -106,7 +106,7 @@ module _ {R E F X : Type 0} {valid : R → Type 0} {has : R → E → Type 0} {m
   pub beginning_refused : (first : R) (e : X) → refuses e (const_term c.constant) → RefusedOfColumns means refuses first c preprocessed main e
   beginning_refused first e refused at m = laws.refuses_whole e (const_term c.constant) (combined_term at c) (part-join_first at) refused
 
--- what the ring refuses, as the call answers it
+-- the ring's refusal as the call's error
 pub columns_as_air : {R E F : Type 0} (means : R → E → Term F → Type 0) (refuses : RingError → Term F → Type 0) (first : R) (c : Combination F) (preprocessed main : List E) (e : RingError)
     → RefusedOfColumns means refuses first c preprocessed main e → RefusedOfColumns means (AsAir refuses) first c preprocessed main (air_error e)
 columns_as_air means refuses first c preprocessed main e h at m = (e, refl, h at m)

@@ -1,4 +1,4 @@
--- The halves of a xor: with what stands at their leaves, and as parts of what `xor_32_shift` asserts.
+-- The halves of a xor: under replacement of leaves, and as parts of the assertions of `xor_32_shift`.
 use Rattle.std.specs.List.{AllZip}
 use Rattle.std.proofs.Common.{◌≡◌, ℕ, ◌-◌, List, [], ◌∷◌, ◌++◌, length, map, take, drop, get_or, Result, refl, sym, ap, ap₂, subst, ◌∙◌, append_assoc}
 use Rattle.air_field.specs.Ring.{CommRing}
@@ -32,7 +32,7 @@ module _ {F : Type 0} (s : Leaf → Term F) where
   leaves-packed_xors : (none : F) (us vs : List (Term F)) → packed_term none (xor_terms (map (with_leaves s) us) (map (with_leaves s) vs)) ≡ with_leaves s (packed_term none (xor_terms us vs))
   leaves-packed_xors none us vs = ap (packed_term none) (leaves-xors us vs) ∙ leaves-packed_term none (xor_terms us vs)
 
--- what is said of a limb less a packed xor, of the one with what stands at its leaves
+-- a predicate of a limb minus a packed xor, for the term with its leaves replaced
 pub half_made : {V F : Type 0} (C : CommRing F) (means : V → Term F → Type 0) (s : Leaf → Term F) (P : Term F → Type 0) (p : V × List V × List V)
     → FromThree (half_term C) (means p.0) (AllZip means p.1) (AllZip means p.2) P
     → (x : Assertion F) → HalfOf C (VariableMeans means (λ l. l)) s p x → MadeOne (λ t. t) s P x
@@ -45,7 +45,7 @@ half_made C means s P p m x h = (
 )
 
 module _ {S V F : Type 0} (C : CommRing F) (one : F) (is : one ≡ C.one) (means : S → V → Term F → Type 0) (a : S) where
-  -- the tests of variables
+  -- the tests of variables for bits
   tests_of : (xs : List V) (ts : List (Term F)) → AllZip (means a) xs ts
       → AllZip (AssertsOf Base means (bool_check_term one) a) xs (test_asserts C ts)
   tests_of [] [] h = tt
@@ -53,7 +53,7 @@ module _ {S V F : Type 0} (C : CommRing F) (one : F) (is : one ≡ C.one) (means
   tests_of (x ∷ xs) [] h = absurd h
   tests_of (x ∷ xs) (t ∷ ts) h = ((t, h.0, ap (λ o. Base (bool_check_term o t)) (sym is)), tests_of xs ts h.1)
 
-  -- what `xor_32_shift` asserts: the tests, and then each half
+  -- the assertions of `xor_32_shift`: the tests, and then each half
   pub xors_are : (limbs b c : List V) (shift : ℕ) (d e : V) (ss : List (Assertion F)) → Xors C (means a) limbs b c shift ss
       → Then
       (Then (AllZip (AssertsOf Base means (bool_check_term one) a) c)
@@ -78,7 +78,7 @@ module _ {S V F : Type 0} (C : CommRing F) (one : F) (is : one ≡ C.one) (means
         w.6 ∙ sym (append_assoc (test_asserts C w.2) (low ∷ []) (high ∷ [])),
       )
 
--- a half of two lists as it is written, and of what they are
+-- the assertion of a half of two lists, with the lists replaced by equal ones
 module _ {S V F X : Type 0} {asserts : S → V × List V × List V → Assertion F → Type 0} {kept : S → S → Type 0}
     {grew : S → S → List (Assertion F) → Type 0} {refuses : S → X → List (Assertion F) → Type 0} {a b : S}
     {result : Result (Unit {0}) X} {limb : V} {own xs others ys : List V} (p : own ≡ xs) (q : others ≡ ys) where

@@ -1,4 +1,4 @@
--- What a lent ring made was asserted, or it refused to make it.
+-- Elements that a lent ring made and that were then asserted, or that it refused to make.
 use Rattle.std.specs.List.{AllZip}
 use Rattle.std.specs.Result.{IsErrAnd}
 use Rattle.std.proofs.Common.{◌≡◌, ◌<◌, List, [], ◌∷◌, length, map, Result, Err, subst, sym, refl, inl, inr, arith}
@@ -18,7 +18,7 @@ use Rattle.air_gadgets.specs.Words.{Limbs}
 use Rattle.air_gadgets.specs.Gadgets.{FromThree, FromFour, LimbsMean, VariableMeans, RefusesOne, Adds2, Adds3, AssertedSuch, add2_terms, add3_terms}
 use Rattle.air_gadgets.proofs.Asserting.{list_of, list_of_each, list_after}
 
--- ---- lists beside one another
+-- ---- lists zipped with one another
 pub zip_mapped : {X Y : Type 0} (P : X → Y → Type 0) (f : Y → Y) (xs : List X) (ys : List Y)
     → AllZip (λ x y. P x (f y)) xs ys → AllZip P xs (map f ys)
 zip_mapped P f [] [] h = h
@@ -26,15 +26,15 @@ zip_mapped P f [] (y ∷ ys) h = absurd h
 zip_mapped P f (x ∷ xs) [] h = absurd h
 zip_mapped P f (x ∷ xs) (y ∷ ys) h = (h.0, zip_mapped P f xs ys h.1)
 
--- what is said of terms with what stands at their leaves is said of a list's
+-- a predicate of the terms with their leaves replaced, for a list of assertions
 abbrev MadeEach : {F : Type 0} → (Leaf → Term F) → (List (Term F) → Type 0) → List (Assertion F) → Type 0
 MadeEach {F = F} s P ss = (ts : List (Term F)) × P (map (with_leaves s) ts) × (ss ≡ map Base ts)
 
--- the same of one term, that an operation is asserted of
+-- as `MadeEach`, for one term, where an operation on it is asserted
 abbrev pub MadeOne : {F : Type 0} → (Term F → Term F) → (Leaf → Term F) → (Term F → Type 0) → Assertion F → Type 0
 MadeOne {F = F} op s P x = (t : Term F) × P (with_leaves s t) × (x ≡ Base (op t))
 
--- the limbs with what stands at their leaves
+-- the limbs with their leaves replaced
 abbrev leaves_of : {F : Type 0} → (Leaf → Term F) → Limbs (Term F) → Limbs (Term F)
 leaves_of s t = record { low = with_leaves s t.low; high = with_leaves s t.high }
 
@@ -43,7 +43,7 @@ some_refused : {X F : Type 0} (refuses : X → Term F → Type 0) (s : Leaf → 
 some_refused refuses s e [] h = absurd h
 some_refused refuses s e (t ∷ ts) h = omega arith
 
--- a part that is refused
+-- if the ring refuses one of `ts`, the builder may refuse `all`, which has every part of `ts`
 refused_part : {S R E F : Type 0} {view : BuilderView S R E F} (laws : BuilderLaws view) (a : S) (e : RingError) (all ts : List (Term F))
     → ((t : Term F) → PartOf t (map Base ts) → PartOf t (map Base all))
     → RefusesOne view.ring_refuses e (map (with_leaves (view.reads_as a)) ts) → view.refuses a (air_error e) (map Base all)
@@ -55,7 +55,7 @@ module _ {S R E F : Type 0} {view : BuilderView S R E F} (ring : RingLaws view) 
     {a : S} {q r : R} (p : q ≡ view.ring_of a) (e : view.extends q r) where
   open view use {means, ring_refuses, ring_of, with_ring, reads_as, kept, grew, refuses}
 
-  -- what the elements assert
+  -- the assertions of the elements
   lent_asserts : (xs : List E) (ts : List (Term F)) → AllZip (means r) xs (map (with_leaves (reads_as a)) ts)
       → AllZip (AssertsOf Base (MeansIn view) (λ t. t) (with_ring a r)) xs (map Base ts)
   lent_asserts [] [] h = tt
@@ -92,7 +92,7 @@ module _ {S R E F : Type 0} {view : BuilderView S R E F} (ring : RingLaws view) 
             subst (refuses a (air_error f)) (sym m.2) (refused_part laws a f m.0 m.0 (λ t k. k) m.1);
       }
 
-  -- a `?` gives up where the lent ring refused to make one
+  -- a `?` returns the lent ring's refusal to make one of them
   pub list_gives_up : {is : List (Assertion F) → Type 0} {f : RingError} {result : Result (Unit {0}) AirError}
       → IsErrAnd result (λ y. y ≡ air_error f) → ((ss : List (Assertion F)) → is ss → MadeEach (reads_as a) (RefusesOne ring_refuses f) ss)
       → AssertedSuch is kept grew refuses a (with_ring a r) result
@@ -109,7 +109,7 @@ module _ {S R E F : Type 0} {view : BuilderView S R E F} (ring : RingLaws view) 
     one_asserted {z = z} result made h =
         lent_asserted laws p e result (λ s k. let m = made s k in (m.0, lent_means ring laws a q r z m.0 p e m.1, m.2)) h
 
-    -- a `?` gives up where the lent ring refused to make it
+    -- a `?` returns the lent ring's refusal to make it
     pub one_gives_up : {f : RingError} {result : Result (Unit {0}) AirError} → IsErrAnd result (λ y. y ≡ air_error f)
         → ((t : Term F) → PartOf t (Base (op t) ∷ [])) → ((s : Assertion F) → asserts a x s → MadeOne op (reads_as a) (ring_refuses f) s)
         → AssertedEach asserts kept grew refuses a (with_ring a r) (x ∷ []) result
@@ -132,7 +132,7 @@ module _ {S R E F : Type 0} {view : BuilderView S R E F} (ring : RingLaws view) 
         → LimbsMean vm xs (leaves_of (reads_as a) t)
     limbs_of xs t h = zip_mapped vm (with_leaves (reads_as a)) xs (t.low ∷ t.high ∷ []) h
 
-    -- what is said of the terms of a sum of two in the lent ring, of three
+    -- a predicate of the terms of a sum of two words made in the lent ring, and of three
     pub sum_made : (C : CommRing F) (P : List (Term F) → Type 0) (xs ys : List V) (zs : List E)
         → FromThree (add2_terms C) (LimbsMean vm xs) (LimbsMean vm ys) (LimbsMean (means q) zs) P
         → (ss : List (Assertion F)) → Adds2 C (VariableMeans vm reads_as a) (MeansIn view a) xs ys zs ss

@@ -21,7 +21,7 @@ all_two P x y p q zero d lt = p
 all_two P x y p q (suc zero) d lt = q
 all_two P x y p q (suc (suc k)) d lt = absurd (omega (arith, lt))
 
--- what is of the difference is of it with its carries
+-- a part of a term is a part of it with its carries
 in_carries : {F : Type 0} (R : CommRing F) (two : Bool) (n : ℕ) {t u : Term F} → Part t u → Part t (carries_term R two n u)
 in_carries R true n p = in_mul_left (in_mul_left p)
 in_carries R false n p = in_mul_left p
@@ -30,7 +30,7 @@ pub carry_part : {F : Type 0} (R : CommRing F) (two : Bool) (n : ℕ) (t : Term 
 carry_part R true n t = in_mul_left whole
 carry_part R false n t = whole
 
--- the terms are refused where a part of the whole difference is
+-- the terms are refused if a part of the whole difference is
 pub carried_refused : {R E F X : Type 0} {valid : R → Type 0} {has : R → E → Type 0} {means : R → E → Term F → Type 0}
     {extends : R → R → Type 0} {refuses : X → Term F → Type 0} (laws : AlgebraLaws valid has means extends refuses)
     (C : CommRing F) (two : Bool) (e : X) (low high t : Term F) → Part t (whole_term C low high) → refuses e t
@@ -38,7 +38,7 @@ pub carried_refused : {R E F X : Type 0} {valid : R → Type 0} {has : R → E �
 carried_refused laws C two e low high t p h =
     inl (laws.refuses_whole e t (carries_term C two 4294967296 (whole_term C low high)) (in_carries C two 4294967296 p) h)
 
--- what is said of the low elements, and later of the high ones
+-- a predicate of the low elements, and, in a later ring, of the high ones
 module _ {V R E F X : Type 0} {valid : R → Type 0} {has : R → E → Type 0} {means : R → E → Term F → Type 0}
     {extends : R → R → Type 0} {refuses : X → Term F → Type 0} (laws : AlgebraLaws valid has means extends refuses)
     (P : V → Term F → Type 0) {q r : R} (later : extends q r) where

@@ -1,4 +1,4 @@
--- a sum of columns, listed each with the weight one
+-- A sum of columns, each listed with the weight one.
 use Rattle.std.proofs.Common.{◌≡◌, ◌∙◌, ℕ, List, map, Result, IfOk, ap, ap₂}
 use Rattle.std.proofs.lemmas.Result.{IfOk-weaker}
 use Rattle.std.proofs.lemmas.Simd.{map-map}

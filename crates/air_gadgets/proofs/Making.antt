@@ -1,4 +1,4 @@
--- What a call that makes something in a ring answers, of what the calls before it did.
+-- The answer of a call that makes something in a ring, from the answers of its own calls.
 use Rattle.std.specs.Result.{IsErrAnd}
 use Rattle.std.proofs.Common.{◌≡◌, Result, Ok, Err, IfOk, IfErr}
 use Rattle.std.proofs.lemmas.Result.{err_from_is_err_and}
@@ -8,14 +8,14 @@ use Rattle.air_gadgets.specs.Gadgets.{FromTwo, MakesFrom}
 
 module _ {E X A : Type 0} {has : E → Type 0} {means : E → A → Type 0} {refuses : X → A → Type 0}
     {from : (A → Type 0) → Type 0} where
-  -- a `?` gives up
+  -- a `?` returns an error
   pub gives_up : (e : X) {result : Result E X} → IsErrAnd result (λ x. x ≡ e) → from (refuses e)
       → MakesFrom has means refuses from result
   gives_up e {result = result} p h =
       let q = err_from_is_err_and result p in
       rw (q.1, q.2) record { made = tt; refused = h }
 
-  -- the last call made it, from what was made before
+  -- the last call made it, from earlier elements
   pub makes_from : {was : (A → Type 0) → Type 0} (result : Result E X) → ((M : A → Type 0) → was M → from M)
       → MakesFrom has means refuses was result → MakesFrom has means refuses from result
   makes_from (Ok z) f h = record { made = (h.made.0, f (means z) h.made.1); refused = tt }
@@ -32,7 +32,7 @@ module _ {R E F X : Type 0} {valid : R → Type 0} {has : R → E → Type 0} {m
   makes_by {new = new} (Ok z) m r f = record { made = (m.0, f (means new z) m.1); refused = tt }
   makes_by (Err e) m r f = record { made = tt; refused = f (refuses e) r }
 
-  -- of two that were made one after the other
+  -- an operation on two elements, made one after the other
   pub one_by_one : {op : Term F → Term F → Term F} {P Q : Term F → Type 0} {q r : R} {x y : E} → extends q r
       → ((t : Term F) → P t → means q x t) → ((t : Term F) → Q t → means r y t)
       → (M : Term F → Type 0) → FromTwo op (means r x) (means r y) M → FromTwo op P Q M

@@ -8,7 +8,7 @@ use Rattle.air_field.specs.Algebra.{double_term, xor_term}
 use Rattle.air_gadgets.specs.Packing.{packed_from, packed_term}
 use Rattle.air_gadgets.specs.Gadgets.{FromTwo, xor_terms, packed_xor_term}
 
--- all but the first
+-- all elements but the first
 rest_is : {X : Type 0} (xs : List X) → take (length xs - 1) (drop 1 xs) ≡ drop 1 xs
 rest_is xs =
     let e = length-drop 1 xs in
@@ -24,13 +24,13 @@ module _ {V F : Type 0} (Q : V → Term F → Type 0) (C : CommRing F) where
   of_heads P v w vs ws go (t ∷ ts) [] h k = absurd k
   of_heads P v w vs ws go (t ∷ ts) (u ∷ us) h k = go t u ts us h.0 k.0 h.1 k.1
 
-  -- a lone bit, or the lowest one
+  -- the only bit, or the lowest one
   of_lowest : (P : Term F → Type 0) (b : Term F) → P b → ((x : Term F) → P (add_term (double_term x) b))
       → (xs : List (Term F)) → P (packed_term C.zero (b ∷ xs))
   of_lowest P b lone go [] = lone
   of_lowest P b lone go (x ∷ xs) = go (packed_from x xs)
 
-  -- what follows from the lowest bits alone, as `packed` reads the lists
+  -- a predicate from the lowest bits only
   pub from_lowest : (vs ws : List V) {d e : V} → d ≡ get_or vs 0 d → e ≡ get_or ws 0 e → length vs ≡ length ws
       → (P : Term F → Type 0) → 0 < length vs → FromTwo xor_term (Q d) (Q e) P
       → ((x y : Term F) → P y → P (add_term (double_term x) y))
@@ -43,7 +43,7 @@ module _ {V F : Type 0} (Q : V → Term F → Type 0) (C : CommRing F) where
       let b = bit t u (subst (λ x. Q x t) (sym p) i) (subst (λ x. Q x u) (sym q) j) in
       of_lowest P (xor_term t u) b (λ x. go x (xor_term t u) b) (xor_terms ts us))
 
-  -- and from the others too
+  -- a predicate from the lowest bits and the others
   pub from_all : (vs ws : List V) {d e : V} → d ≡ get_or vs 0 d → e ≡ get_or ws 0 e → length vs ≡ length ws
       → (B R P : Term F → Type 0) → 1 < length vs → FromTwo xor_term (Q d) (Q e) B
       → FromTwo (packed_xor_term C) (AllZip Q (take (length vs - 1) (drop 1 vs))) (AllZip Q (take (length ws - 1) (drop 1 ws))) R

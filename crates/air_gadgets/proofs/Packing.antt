@@ -16,7 +16,7 @@ use Rattle.air_author.specs.laws.Making.{part_gives_up, operand_gives_up, second
 module _ {S R E F : Type 0} {view : BuilderView S R E F} (ring : RingLaws view) (laws : BuilderLaws view) where
   open view use {has, ring_of, reads_as, grew, missing, refuses}
 
-  -- what was made is in the lent ring after a further step too
+  -- a made element is in the lent ring after a further step too
   pub stays_in_ring : (a b d : S) (q : R) (x y : E) (t u : Term F) → MakesTerm (MeansIn view) grew missing refuses a b (Ok x) t
       → MakesTerm (MeansIn view) grew missing refuses b d (Ok y) u → q ≡ ring_of d → has q x
   stays_in_ring a b d q x y t u h k p =

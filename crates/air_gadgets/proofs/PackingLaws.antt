@@ -1,4 +1,4 @@
--- packing bits from the highest on, one by one
+-- Packing bits from the highest on, one by one.
 use Rattle.std.specs.List.{AllZip}
 use Rattle.std.proofs.Common.{◌≡◌, ◌∙◌, ℕ, zero, suc, ◌-◌, ◌<◌, List, [], ◌∷◌, length, drop, get_or, refl, sym, ap, subst, arith}
 use Rattle.air_field.specs.Term.{Term, add_term}
@@ -28,7 +28,7 @@ one_below {has = has} {means = means} {extends = extends} {old = old} {new = new
     let e : i ≡ suc (i - 1) = omega (arith, h) in
     subst (λ j. IsPacking has means extends old new xs j total) e p
 
--- the term at a place
+-- the term at an index
 pub record Placed {E F : Type 0} (means : E → Term F → Type 0) (i : ℕ) (x : E) (ts : List (Term F)) : Type 0 where
   pub t : Term F
   pub x_means : means x t
@@ -54,7 +54,7 @@ past_all means (suc i) (y ∷ ys) (t ∷ ts) m h = past_all means i ys ts m.1 (o
 none_more : {F : Type 0} (u : Term F) (us : List (Term F)) → [] ≡ u ∷ us → ⊥
 none_more u us e = absurd cc
 
--- what is packed from a place on is a part of the whole
+-- the terms packed from an index on are a part of the whole
 part-packed : {F : Type 0} (none : F) (i : ℕ) (ts : List (Term F)) (u : Term F) (us : List (Term F)) → drop i ts ≡ u ∷ us → Part (packed_from u us) (packed_term none ts)
 part-packed none zero ts u us e = subst (λ l. Part (packed_from u us) (packed_term none l)) (sym e) whole
 part-packed none (suc i) [] u us e = absurd (none_more u us e)
@@ -120,7 +120,7 @@ module _ {R E F X : Type 0} {valid : R → Type 0} {has : R → E → Type 0} {m
       (part-packed none j ts at.t (l.u ∷ l.us) (at.place ∙ ap (λ r. at.t ∷ r) l.left))
       (refused (double_term (packed_from l.u l.us)) at.t (doubled.1 (packed_from l.u l.us) l.total_means) (laws.means_stays p q x at.t g (laws.means_stays first p x at.t h.extended at.x_means)))
 
--- what the ring refuses, as the call answers it
+-- the ring's refusal as the call's error
 pub packed_as_air : {R E F : Type 0} (means : R → E → Term F → Type 0) (refuses : RingError → Term F → Type 0) (none : F) (first : R) (xs : List E) (e : RingError)
     → RefusedOfPacked means refuses none first xs e → RefusedOfPacked means (AsAir refuses) none first xs (air_error e)
 packed_as_air means refuses none first xs e h ts m = (e, refl, h ts m)

@@ -1,4 +1,4 @@
--- Two lists beside one another, cut and rotated alike.
+-- Two zipped lists, cut and rotated alike.
 use Rattle.std.specs.List.{AllZip}
 use Rattle.std.proofs.Common.{◌≡◌, ℕ, zero, suc, ◌-◌, ◌≤◌, List, [], ◌∷◌, length, take, drop, refl, ap, arith, length-append, length-drop}
 use Rattle.std.proofs.lemmas.List.{take_all, length-take}
@@ -8,7 +8,7 @@ use Rattle.air_builder.specs.laws.Zips.{AllZip-joined, AllZip-take, AllZip-drop}
 use Rattle.air_gadgets.specs.Words.{rotated_left}
 use Rattle.air_gadgets.specs.Gadgets.{xor_terms}
 
--- rotated alike
+-- both rotated by the same shift
 pub zip_rotated : {X Y : Type 0} (P : X → Y → Type 0) (shift : ℕ) (xs : List X) (ys : List Y) → AllZip P xs ys → AllZip P (rotated_left shift xs) (rotated_left shift ys)
 zip_rotated P shift xs ys h =
     AllZip-joined P (drop (32 - shift) xs) (take (32 - shift) xs) (drop (32 - shift) ys) (take (32 - shift) ys) (AllZip-drop P (32 - shift) xs ys h) (AllZip-take P (32 - shift) xs ys h)

@@ -2,7 +2,7 @@
 use Rattle.std.specs.Prelude.{ℕ, zero, suc, ◌+◌, ◌/◌, ◌%◌, ◌<◌, List, [], ◌∷◌, ⊤}
 use Rattle.air_field.specs.Ring.{CommRing, minus}
 
--- so many of a number's lowest digits, lowest first
+-- the k lowest digits of a number, lowest first
 abbrev pub digits_of : ℕ → ℕ → ℕ → List ℕ
 digits_of base zero n = []
 digits_of base (suc k) n = n % base ∷ digits_of base k (n / base)

@@ -1,4 +1,4 @@
--- What it means that the asserted terms are zero.
+-- When the asserted terms are zero.
 use Rattle.std.specs.Prelude.{◌≡◌, ℕ, ◌*◌, ◌^◌, ◌<◌, ◌↔◌, List, [], ◌∷◌, map, ⊤}
 use Rattle.air_field.specs.Ring.{CommRing, image, self_algebra}
 use Rattle.air_field.specs.Term.{Leaf, Term}

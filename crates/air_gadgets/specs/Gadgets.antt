@@ -1,4 +1,4 @@
--- What the gadgets of words assert.
+-- The assertions of the word gadgets.
 use Rattle.std.specs.Prelude.{◌≡◌, ℕ, ◌*◌, ◌^◌, ◌⊎◌, List, [], ◌∷◌, ◌++◌, map, take, drop, Bool, true, false, Result, IfOk, IfErr, ⊤}
 use Rattle.std.specs.List.{AllZip}
 use Rattle.air_field.specs.Ring.{CommRing, image}
@@ -43,38 +43,38 @@ abbrev pub carries_term : {F : Type 0} → CommRing F → Bool → ℕ → Term 
 carries_term R true n t = two_carries_term R n t
 carries_term R false n t = carry_term R n t
 
--- the whole difference and the low one, each times itself and the carries
+-- the whole difference and the low one, each with its carries
 abbrev pub carried_terms : {F : Type 0} → CommRing F → Bool → Term F → Term F → List (Term F)
 carried_terms R two low high = carries_term R two (2 ^ 32) (whole_term R low high) ∷ carries_term R two (2 ^ 16) low ∷ []
 
--- a - b - c of the words and of their low limbs, each times itself and a carry
+-- a - b - c of the words and of their low limbs, each with one carry
 abbrev pub add2_terms : {F : Type 0} → CommRing F → Limbs (Term F) → Limbs (Term F) → Limbs (Term F) → List (Term F)
 add2_terms R a b c = carried_terms R false (less_two_term a.low b.low c.low) (less_two_term a.high b.high c.high)
 
 abbrev pub add2_asserts : {F : Type 0} → CommRing F → Limbs (Term F) → Limbs (Term F) → Limbs (Term F) → List (Assertion F)
 add2_asserts R a b c = map Base (add2_terms R a b c)
 
--- a - b - c - d of the words and of their low limbs, each times itself and two carries
+-- a - b - c - d of the words and of their low limbs, each with two carries
 abbrev pub add3_terms : {F : Type 0} → CommRing F → Limbs (Term F) → Limbs (Term F) → Limbs (Term F) → Limbs (Term F) → List (Term F)
 add3_terms R a b c d = carried_terms R true (less_three_term a.low b.low c.low d.low) (less_three_term a.high b.high c.high d.high)
 
 abbrev pub add3_asserts : {F : Type 0} → CommRing F → Limbs (Term F) → Limbs (Term F) → Limbs (Term F) → Limbs (Term F) → List (Assertion F)
 add3_asserts R a b c d = map Base (add3_terms R a b c d)
 
--- the xor of two lists of bits, place by place
+-- the xor of two lists of bits, index by index
 abbrev pub xor_terms : {F : Type 0} → List (Term F) → List (Term F) → List (Term F)
 xor_terms [] us = []
 xor_terms (t ∷ ts) [] = []
 xor_terms (t ∷ ts) (u ∷ us) = xor_term t u ∷ xor_terms ts us
 
--- the packed xor of two lists of bits, and a limb less that
+-- the packed xor of two lists of bits, and a limb minus that
 abbrev pub packed_xor_term : {F : Type 0} → CommRing F → List (Term F) → List (Term F) → Term F
 packed_xor_term R ts us = packed_term R.zero (xor_terms ts us)
 
 abbrev pub half_term : {F : Type 0} → CommRing F → Term F → List (Term F) → List (Term F) → Term F
 half_term R t us vs = t ⊖ packed_xor_term R us vs
 
--- the halves of a less those of b xor c rotated
+-- the halves of a minus those of b xor c rotated
 abbrev pub half_terms : {F : Type 0} → CommRing F → Limbs (Term F) → List (Term F) → List (Term F) → ℕ → List (Term F)
 half_terms R a b c shift =
     let bits = xor_terms b (rotated_left shift c) in
@@ -88,7 +88,7 @@ test_asserts R ts = map (λ t. Base (bool_check_term R.one t)) ts
 abbrev pub xor_asserts : {F : Type 0} → CommRing F → Limbs (Term F) → List (Term F) → List (Term F) → ℕ → List (Assertion F)
 xor_asserts R a b c shift = test_asserts R c ++ map Base (half_terms R a b c shift)
 
--- what is said of the operation, of whatever its operands are
+-- M holds of the operation on all operands for which the other predicates hold
 abbrev pub FromOne : {A B : Type 0} → (A → B) → (A → Type 0) → (B → Type 0) → Type 0
 FromOne {A} op P M = (t : A) → P t → M (op t)
 
@@ -101,63 +101,63 @@ FromThree {A} {B} {C} op P Q S M = (t : A) (u : B) (v : C) → P t → Q u → S
 abbrev pub FromFour : {A B C D G : Type 0} → (A → B → C → D → G) → (A → Type 0) → (B → Type 0) → (C → Type 0) → (D → Type 0) → (G → Type 0) → Type 0
 FromFour {A} {B} {C} {D} op P Q S T M = (t : A) (u : B) (v : C) (w : D) → P t → Q u → S v → T w → M (op t u v w)
 
--- What a call that makes something in a ring answers: what it made means the terms, or the making of them may be refused.
--- The terms are those `from` operands.
+-- The answer of a call that makes something in a ring: at Ok it means the terms, and an error is one of making them. `from`
+-- states a predicate of the terms made from the operands.
 pub record MakesFrom {E X A : Type 0} (has : E → Type 0) (means : E → A → Type 0) (refuses : X → A → Type 0)
     (from : (A → Type 0) → Type 0) (result : Result E X) : Type 0 where
   pub made : IfOk result (λ z. has z × from (means z))
   pub refused : IfErr result (λ e. from (refuses e))
 
--- the making of one of the terms may answer e
+-- making one of the terms may be refused with e
 abbrev pub RefusesOne : {X F : Type 0} → (X → Term F → Type 0) → X → List (Term F) → Type 0
 RefusesOne refuses e [] = ⊥
 RefusesOne refuses e (t ∷ ts) = refuses e t ⊎ RefusesOne refuses e ts
 
--- the two of a list mean the limbs' terms
+-- the two elements of the list mean the limbs' terms
 abbrev pub LimbsMean : {X F : Type 0} → (X → Term F → Type 0) → List X → Limbs (Term F) → Type 0
 LimbsMean means xs t = AllZip means xs (t.low ∷ t.high ∷ [])
 
--- a variable means a term in a builder: what stands at its leaves
+-- a variable means a term in a builder, once each leaf is replaced by how the builder reads it
 abbrev pub VariableMeans : {S V F : Type 0} → (V → Term F → Type 0) → (S → Leaf → Term F) → S → V → Term F → Type 0
 VariableMeans means reads_as b v t = means v (with_leaves (reads_as b) t)
 
--- the same of a builder as its laws see it
+-- `VariableMeans` for a builder's view
 abbrev pub VariableMeansIn : {S R V E F : Type 0} → BuilderView S R E F → (V → Term F → Type 0) → S → V → Term F → Type 0
 VariableMeansIn view means = VariableMeans means view.reads_as
 
--- the list is what `add2` asserts of terms that were handed to it
+-- the list is that of `add2`'s assertions, for some terms that its arguments mean
 abbrev pub Adds2 : {V E F : Type 0} → CommRing F → (V → Term F → Type 0) → (E → Term F → Type 0) → List V → List V → List E → List (Assertion F) → Type 0
 Adds2 {F = F} R reads_as means a b c ts =
     (t : Limbs (Term F)) × (u : Limbs (Term F)) × (v : Limbs (Term F))
     × LimbsMean reads_as a t × LimbsMean reads_as b u × LimbsMean means c v × (ts ≡ add2_asserts R t u v)
 
--- the list is what `add3` asserts of terms that were handed to it
+-- the list is that of `add3`'s assertions, for some terms that its arguments mean
 abbrev pub Adds3 : {V E F : Type 0} → CommRing F → (V → Term F → Type 0) → (E → Term F → Type 0) → List V → List V → List E → List E → List (Assertion F) → Type 0
 Adds3 {F = F} R reads_as means a b c d ts =
     (t : Limbs (Term F)) × (u : Limbs (Term F)) × (v : Limbs (Term F)) × (w : Limbs (Term F))
     × LimbsMean reads_as a t × LimbsMean reads_as b u × LimbsMean means c v × LimbsMean means d w × (ts ≡ add3_asserts R t u v w)
 
--- the list is what `xor_32_shift` asserts of terms that were handed to it
+-- the list is that of `xor_32_shift`'s assertions, for some terms that its arguments mean
 abbrev pub Xors : {V F : Type 0} → CommRing F → (V → Term F → Type 0) → List V → List V → List V → ℕ → List (Assertion F) → Type 0
 Xors {F = F} R reads_as a b c shift ts =
     (t : Limbs (Term F)) × (u : List (Term F)) × (v : List (Term F))
     × LimbsMean reads_as a t × AllZip reads_as b u × AllZip reads_as c v × (ts ≡ xor_asserts R t u v shift)
 
--- the assertion is that a limb less the packed xor of two lists of bits is zero, of terms that the three mean
+-- the assertion is that a limb minus the packed xor of two lists of bits is zero, for some terms that the three mean
 abbrev pub HalfOf : {S V F : Type 0} → CommRing F → (S → V → Term F → Type 0) → S → V × List V × List V → Assertion F → Type 0
 HalfOf {F = F} R means a p s =
     (t : Term F) × (us : List (Term F)) × (vs : List (Term F))
     × means a p.0 t × AllZip (means a) p.1 us × AllZip (means a) p.2 vs
     × (s ≡ Base (half_term R t us vs))
 
--- What a call that asserts a list does to a builder, whichever of the lists it is that the terms handed to it make.
+-- The effect of a call that asserts a list, for every list that `is` allows.
 abbrev pub AssertedSuch : {S X F : Type 0} → (List (Assertion F) → Type 0) → (S → S → Type 0)
     → (S → S → List (Assertion F) → Type 0) → (S → X → List (Assertion F) → Type 0) → S → S → Result ⊤ X → Type 0
 AssertedSuch {F = F} is kept grew refuses a b result =
     Asserted (λ s fact. (ts : List (Assertion F)) → is ts → fact ts)
     (λ s fact. (ts : List (Assertion F)) → is ts → OfBeginning ts fact) kept grew refuses a b result
 
--- the same of a builder as its laws see it
+-- `AssertedSuch` for a builder's view
 abbrev pub AssertedSuchIn : {S R E F : Type 0} → BuilderView S R E F → (List (Assertion F) → Type 0) → S → S
     → Result ⊤ AirError → Type 0
 AssertedSuchIn view is a b result = AssertedSuch is view.kept view.grew view.refuses a b result

@@ -1,4 +1,4 @@
--- Numbers and words that stand at a row.
+-- Numbers and words as the values of terms.
 use Rattle.std.specs.Prelude.{◌≡◌, ℕ, ◌^◌, ◌<◌}
 use Rattle.air_field.specs.Ring.{CommRing, image, self_algebra}
 use Rattle.air_field.specs.Term.{Leaf, Term}

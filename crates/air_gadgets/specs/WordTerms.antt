@@ -10,15 +10,16 @@ use Rattle.air_gadgets.specs.BitTerms.{has_bits}
 abbrev pub limbs : {A : Type 0} → A → A → Limbs A
 limbs low high = record { low = low; high = high }
 
--- each is zero, of which becomes f
+-- each term is zero, with f around it
 abbrev pub all_vanish : {F : Type 0} → (Term F → Term F) → List (Term F) → List (Assertion F)
 all_vanish f ts = map (λ t. Base (f t)) ts
 
--- The word whose lower limb is in this column, with the 16 columns of its bits behind it, and then the upper one with its.
+-- The word whose lower limb is in this column, followed by the 16 columns of its bits, the upper limb and the 16 columns of
+-- its bits.
 abbrev pub word_at : {F : Type 0} → ℕ → Limbs (Term F)
 word_at first = limbs (current first) (current (first + 17))
 
--- it has these bits
+-- both limbs of the word have the bits in the columns after them, with f around each term
 unfoldable pub word_bits : {F : Type 0} → CommRing F → ℕ → (Term F → Term F) → List (Assertion F)
 word_bits R first f =
     has_bits R (current first) (first + 1) 16 f ++ has_bits R (current (first + 17)) (first + 18) 16 f

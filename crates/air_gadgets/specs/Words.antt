@@ -1,7 +1,7 @@
 -- Words of 32 bits: whole numbers modulo 2^32, and lists of 32 bits, the lowest first.
 use Rattle.std.specs.Prelude.{ℕ, ◌+◌, ◌-◌, ◌*◌, ◌%◌, ◌^◌, ◌<◌, List, [], ◌∷◌, ◌++◌, take, drop}
 
--- The lower and the upper 16 bits of a word, or what stands for them.
+-- The lower and the upper 16 bits of a word, or elements or terms for them.
 pub record Limbs (A : Type 0) : Type 0 where
   pub low : A
   pub high : A
@@ -26,13 +26,13 @@ abbrev pub number_of : List ℕ → ℕ
 number_of [] = 0
 number_of (b ∷ bs) = b + 2 * number_of bs
 
--- the xor of two lists of bits, place by place
+-- the xor of two lists of bits, index by index
 abbrev pub xor_bits : List ℕ → List ℕ → List ℕ
 xor_bits [] cs = []
 xor_bits (b ∷ bs) [] = []
 xor_bits (b ∷ bs) (c ∷ cs) = (b + c) % 2 ∷ xor_bits bs cs
 
--- a word's list rotated to the left by so many places: its upper ones come first
+-- a list of 32 rotated to the left by `shift`: its last `shift` elements come first
 abbrev pub rotated_left : {A : Type 0} → ℕ → List A → List A
 rotated_left shift xs = drop (32 - shift) xs ++ take (32 - shift) xs
 

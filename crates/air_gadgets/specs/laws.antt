@@ -1,4 +1,4 @@
--- Laws of bits, packed bits, and of words' sums and xors: the layers above cite them.
+-- Laws of bits, packed bits, sums and xors of words, and vanishing constraints: the layers above cite them.
 pub mod Bits
 pub mod PowerSums
 pub mod PackedBits

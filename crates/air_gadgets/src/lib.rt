@@ -1,5 +1,8 @@
-//! Virtual columns over the rows of a trace, the bits and limbs of numbers in a field, and sums and xors of words of
-//! 32 bits: as assertions on any builder, and as values that an author states under any condition.
+//! Virtual columns over the rows of a trace, the bits and limbs of numbers in a field, and sums and xors of 32-bit
+//! words: as assertions on any builder, and as values that an author states under any condition.
+//!
+//! Calls fail only with `Memory` unless they say otherwise. Calls on a ring or a builder fail only as its `refuses`
+//! allows.
 #![tactic(auto)]
 
 pub mod columns;

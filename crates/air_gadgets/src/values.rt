@@ -1,5 +1,5 @@
-//! Bits, words and their sums and xors as values, which an author states under any condition. They assert the terms that
-//! the calls `pack_bits_le`, `add2`, `add3` and `xor_32_shift` do.
+//! Bits, words and their sums and xors as values, which an author states under any condition. Packed bits and sums have
+//! the terms of the calls `pack_bits_le`, `add2` and `add3`.
 
 pub mod bits;
 pub mod packed;

@@ -18,7 +18,7 @@ module _ {F E : Type 0} (R : CommRing F) (a : AlgebraOver F E) (basis : Basis F 
   from_coordinates coordinates values d =
       weighted_sum a.ring (map (λ c. a.ring.mul (a.embed c) (basis_element R a d)) (get_or coordinates d [])) values
 
-  -- the same, from whole weights
+  -- the summand of basis element d, from whole weights
   abbrev from_weights : (ℕ → E) → (ℕ → E) → List ℕ → ℕ → E
   from_weights w v indices d = sum_over a.ring (λ i. a.ring.mul (part R a basis (w i) d) (v i)) indices
 
@@ -50,7 +50,8 @@ module _ {F E : Type 0} (R : CommRing F) (a : AlgebraOver F E) (basis : Basis F 
       (ap (sum_below a.ring (from_coordinates (all_coordinates_of R basis (map w b) n) (map v b))) (length-tabulation (all_coordinates_of R basis (map w b)) (coordinates_of R basis (map w b)) (tabulated (map w b)) n) ∙ by_coordinates w v b)
       (weighted_sum-map a.ring w v e)
 
-  -- The recombination, from coordinates and whole powers, of the values at the places of both kinds is Horner's fold of all.
+  -- The recombination, from coordinates and whole powers, of the values at the indices of both kinds is Horner's fold of all
+  -- values.
   pub recombination-sum_by_powers : (alpha : E) (kinds : List ConstraintKind) (values : List E) (b e : List ℕ) → ArePlacesOf kinds b e → length values ≡ length kinds →
       recombination R a (all_coordinates_of R basis (alpha_powers_at a.ring alpha (length b + length e) b) n) (alpha_powers_at a.ring alpha (length b + length e) e) (values_at a.ring values b) (values_at a.ring values e)
       ≡ sum_by_powers a.ring alpha values
@@ -67,7 +68,7 @@ module _ {F E : Type 0} (R : CommRing F) (a : AlgebraOver F E) (basis : Basis F 
       total : length b + length e ≡ length values
       total = ap₂ (λ x y. length x + length y) are.base are.extension ∙ (length-places 0 kinds ∙ sym same_length)
 
-  -- the same of lists that are said to be these coordinates and these whole powers, of k constraints
+  -- as above, for lists that equal these coordinates and these whole powers, of k constraints
   pub recombines : (alpha : E) (k : ℕ) (b e : List ℕ) (lists : List (List F)) (powers : List E) → k ≡ length b + length e → lists ≡ all_coordinates_of R basis (alpha_powers_at a.ring alpha k b) n → powers ≡ alpha_powers_at a.ring alpha k e → Recombines R a alpha b e lists powers
   recombines alpha k b e lists powers count lists_are powers_are kinds values are same_length =
       ap₂ (λ l p. recombination R a l p (values_at a.ring values b) (values_at a.ring values e))

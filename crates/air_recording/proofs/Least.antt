@@ -1,4 +1,5 @@
--- The inferred degree bounds the degrees of terms, and is the least bound: for weight 0 for three rows and more.
+-- The inferred degree bounds the degrees of terms, and is the least bound; for weight 0 the latter holds for three rows or
+-- more.
 use Rattle.std.proofs.Common.{◌≡◌, ℕ, zero, suc, ◌+◌, ◌-◌, ◌*◌, add-mul, ◌<◌, ◌≤◌, ◌^◌, min, max, List, [], ◌∷◌, sym, subst, arith, ⊎_elim}
 use Rattle.std.proofs.Math.Nat.{max-eq_left, max-eq_right, max-le, le-max_left, le-max_right, lt_of_mul-lt-mul_right, mul-le-mul_right, suc-mul, div_self}
 use Rattle.std.proofs.lemmas.Bool.{cases_lt}
@@ -11,7 +12,7 @@ use Rattle.air_field.specs.Degree.{degree_by, cached_weight, trace_weight, perio
 quotient_of : (k n : ℕ) → quotient_degree (suc k) n ≡ div_ceil k (max (n - 1) 1)
 quotient_of k n = Prim.grind arith
 
--- (d (n - 1) + 1) is reached by the quotient of p
+-- the quotient degree d of p satisfies p ≤ d (n - 1) + 1
 quotient_reaches : (p n : ℕ) → 2 ≤ n → p ≤ quotient_degree p n * (n - 1) + 1
 quotient_reaches zero n h = omega arith
 quotient_reaches (suc k) n h =
@@ -19,7 +20,7 @@ quotient_reaches (suc k) n h =
     let b = div_ceil_times k (n - 1) (omega (arith, h)) in
     subst (λ x. suc k ≤ x * (n - 1) + 1) (sym (quotient_of k n)) (subst (λ x. suc k ≤ div_ceil k x * (n - 1) + 1) (sym m) (omega (arith, b.0)))
 
--- and by nothing less
+-- no smaller number satisfies it
 quotient_least : (p n e : ℕ) → 2 ≤ n → p ≤ e * (n - 1) + 1 → quotient_degree p n ≤ e
 quotient_least zero n e h b = omega arith
 quotient_least (suc k) n e h b =
@@ -35,7 +36,7 @@ greater_of P a b x y =
     (λ (ge : b ≤ a). subst P (sym (max-eq_left ge)) x)
     (cases_lt a b)
 
--- Over n rows, n at least 1, a term's degree is no less than n - 1 times its cached degree, where no column is periodic.
+-- Over n rows, n at least 1, if no column is periodic, a term's degree is at least n - 1 times its cached degree.
 module _ (n : ℕ) (some : 1 ≤ n) where
   leaf_within : (l : Leaf) → cached_weight l * (n - 1) ≤ trace_weight n [] l
   leaf_within (preprocessed o i) = omega arith
@@ -82,7 +83,7 @@ inferred_bounds n [] ts h =
     omega (arith, quotient_reaches p n h, mul-le-mul_right (n - 1) (le-max_left q c))
 inferred_bounds n (x ∷ periods) ts h = quotient_reaches (greatest_degree (trace_weight n (x ∷ periods)) ts) n h
 
--- And of the bounds it is the least, for three rows and more.
+-- For three rows or more it is the least bound.
 pub inferred_least : {F : Type 0} (n : ℕ) (periods : List ℕ) (ts : List (Term F)) (e : ℕ) → 3 ≤ n → greatest_degree (trace_weight n periods) ts ≤ e * (n - 1) + 1 → inferred_degree n periods ts ≤ e
 inferred_least n [] ts e h b =
     let p = greatest_degree (trace_weight n []) ts in
@@ -104,7 +105,7 @@ pub greatest_within_all : {F : Type 0} (w : Leaf → ℕ) (n : ℕ) (ts : List (
 greatest_within_all w n [] h = omega arith
 greatest_within_all w n (t ∷ ts) h = max-le (h 0 t (omega arith)) (greatest_within_all w n ts (λ k d b. h (suc k) d (omega arith)))
 
--- What is inferred of terms whose degrees fit is the degree for them over a trace.
+-- The inferred degree of terms whose degrees fit is the degree for them over a trace.
 pub degree_for : {F : Type 0} (n : ℕ) (periods : List ℕ) (ts : List (Term F)) (d : ℕ) → d ≡ inferred_degree n periods ts → greatest_degree (trace_weight n periods) ts < 2 ^ 64 → IsTraceDegree n periods ts d
 degree_for n periods ts d value fits =
     let w = trace_weight n periods in
@@ -115,7 +116,7 @@ degree_for n periods ts d value fits =
       least = λ h e within. subst (λ k. k ≤ e) (sym value) (inferred_least n periods ts e h (greatest_within_all w (bound_of e n) ts within));
     }
 
--- Of terms whose degrees fit the greatest degree is a bound, and the least.
+-- The greatest degree of terms whose degrees fit is a bound, and the least one.
 pub greatest_for : {F : Type 0} (w : Leaf → ℕ) (ts : List (Term F)) (d : ℕ) → d ≡ greatest_degree w ts → greatest_degree w ts < 2 ^ 64 → IsGreatestDegree w ts d
 greatest_for w ts d value fits = record {
   value = value;

@@ -1,4 +1,4 @@
--- What means a declared term has its polynomial.
+-- An expression that means a declared term has its polynomial.
 use Rattle.std.specs.List.{AllZip}
 use Rattle.std.proofs.Common.{ℕ, zero, suc, ◌<◌, List, [], ◌∷◌, length, slice_index_or, sym, ◌∙◌, arith}
 use Rattle.air_field.specs.Ring.{CommRing, AlgebraOver, AlgebraOverLaws}
@@ -22,7 +22,7 @@ module _ {U A F : Type 0} (r : CommRing F) (reads : U → Leaves A F) (pool : Po
     each_records a l is ts m.1,
   )
 
-  -- and is of the pool
+  -- the numbers are of the pool
   pub numbers_here : (is : List ℕ) (ts : List (Term F)) → AllZip (PoolMeans reads r pool) is ts → (k d : ℕ) → k < length is → slice_index_or is k d < length pool.nodes
   numbers_here [] ts m k d b = absurd (omega arith)
   numbers_here (i ∷ is) [] m k d b = absurd m

@@ -1,4 +1,4 @@
--- Sums in a commutative ring: below a number, over a list, and over the places of both kinds.
+-- Sums in a commutative ring: below a number, over a list, and over the indices of both kinds.
 use Rattle.std.proofs.Common.{◌≡◌, ℕ, zero, suc, ◌+◌, ◌<◌, Bool, List, [], ◌∷◌, length, map, refl, sym, ap, ap₂, ◌∙◌, arith}
 use Rattle.std.specs.List.{filter, enumerate_from}
 use Rattle.air_field.specs.Ring.{CommRing}
@@ -8,7 +8,7 @@ use Rattle.air_recording.specs.declared.symbolic.kind.ConstraintKind.{Constraint
 use Rattle.air_recording.specs.declared.symbolic.kind.ConstraintKind.TheVariants as kind
 use Rattle.air_recording.specs.Folds.{sum_below, weighted_sum}
 
--- the places at which the kind is one of those, where the first kind has place n
+-- the indices at which the kind satisfies `is`, where the first kind has index n
 abbrev pub places_from : (ConstraintKind → Bool) → ℕ → List ConstraintKind → List ℕ
 places_from is n kinds = map (λ p. p.0) (filter (λ p. is p.1) (enumerate_from n kinds))
 
@@ -39,7 +39,7 @@ module _ {E : Type 0} (r : CommRing E) where
   sum_over-add f g (x ∷ xs) =
       ap (r.add (r.add (f x) (g x))) (sum_over-add f g xs) ∙ simp ring_rules
 
-  -- two sums change places
+  -- two sums can be exchanged
   pub sum_below-over : {A : Type 0} (f : ℕ → A → E) (xs : List A) (n : ℕ) → sum_below r (λ d. sum_over (f d) xs) n ≡ sum_over (λ x. sum_below r (λ d. f d x) n) xs
   sum_below-over f xs zero = sym (sum_over-nil xs)
   sum_below-over f xs (suc n) =
@@ -67,7 +67,7 @@ module _ {E : Type 0} (r : CommRing E) where
       ap (λ x. r.add x (f n)) (sum_below-from f n)
       ∙ (ap (λ i. r.add (sum_from f 0 n) (f i)) (omega arith) ∙ sym (sum_from-last f 0 n))
 
-  -- the places of both kinds are all places
+  -- the indices of both kinds are all indices
   pub sum-places : (f : ℕ → E) (k : ℕ) (kinds : List ConstraintKind) → r.add (sum_over f (places_from is_base k kinds)) (sum_over f (places_from is_extension k kinds)) ≡ sum_from f k (length kinds)
   sum-places f k [] = r.add_zero r.zero
   sum-places f k (kind.Base ∷ kinds) =
@@ -77,7 +77,7 @@ module _ {E : Type 0} (r : CommRing E) where
       add_left_comm r (sum_over f (places_from is_base (k + 1) kinds)) (f k) (sum_over f (places_from is_extension (k + 1) kinds))
       ∙ ap (r.add (f k)) (sum-places f (k + 1) kinds)
 
--- so many places there are
+-- the number of indices is the number of kinds
 pub length-places : (n : ℕ) (kinds : List ConstraintKind) → length (places_from is_base n kinds) + length (places_from is_extension n kinds) ≡ length kinds
 length-places n [] = refl
 length-places n (kind.Base ∷ kinds) = let h : length (places_from is_base (n + 1) kinds) + length (places_from is_extension (n + 1) kinds) ≡ length kinds = length-places (n + 1) kinds in omega arith

@@ -1,4 +1,4 @@
--- How a symbolic builder grows: by nothing, and by one expression that was put on a list.
+-- Growth of a symbolic builder: by nothing, and by one expression appended to a list.
 use Rattle.std.proofs.Common.{◌≡◌, ℕ, List, [], ◌∷◌, Result, OnOk, OnErr, IfErr, refl, sym, subst}
 use Rattle.std.proofs.lemmas.Result.{on_ok_weaker, on_err_weaker, IfErr-weaker}
 use Rattle.air_field.specs.Ring.{CommRing, AlgebraOver}
@@ -24,7 +24,7 @@ module _ {F EF : Type 0} {r : CommRing F} {over : AlgebraOver F EF} {basis : Bas
   abbrev Kept : Type 0
   Kept = KeptRecording (Grown ext_grows (ext_reads basis)) p p s s
 
-  -- and its lists grew
+  -- the builder's lists grew
   abbrev Grew : Lists ℕ ℕ → List (Assertion F) → Type 0
   Grew new ts = GrewRecording (λ q. PoolMeans base_reads r q.base) (PoolMeans (ext_reads basis) r) (Grown ext_grows (ext_reads basis)) p p s s old new ts
 
@@ -33,15 +33,15 @@ module _ {F EF : Type 0} {r : CommRing F} {over : AlgebraOver F EF} {basis : Bas
       let ext = ext_pool_laws laws in
       recorded_none (base_pool_laws r) ext (λ q. q.base) (base_grown basis) p p s s old new (ext.same p) refl e
 
-  -- a base expression that was put on its list is growth by what it asserts
+  -- appending a base expression to its list is growth by its assertion
   pub base_recorded : (x : ℕ) (k : Assertion F) → AssertsOf Base (λ q y t. PoolMeans base_reads r q.base y (with_leaves (λ l. leaf_term l) t)) (λ t. t) p x k → Grew (with_base old x) (k ∷ [])
   base_recorded x k h = recorded_base (base_pool_laws r) (ext_pool_laws laws) (λ q. q.base) (base_grown basis) p s old _ x k h.0 refl h.2 h.1
 
-  -- and so is an extension expression
+  -- appending an extension expression to its list is growth by its assertion
   pub ext_recorded : (x : ℕ) (k : Assertion F) → AssertsOf Extension (λ q y t. PoolMeans (ext_reads basis) r q y (with_leaves (λ l. leaf_term l) t)) (λ t. t) p x k → Grew (with_ext old x) (k ∷ [])
   ext_recorded x k h = recorded_ext (base_pool_laws r) (ext_pool_laws laws) (λ q. q.base) (base_grown basis) p s old _ x k h.0 refl h.2 h.1
 
-  -- what was put on a list is asserted; where it is refused, for want of memory, the lists are as they were
+  -- an appended expression is asserted; if the append is refused with `Memory`, the lists are unchanged
   pub pushed_asserted : {S I : Type 0} {asserts : S → I → Assertion F → Type 0} {kept : S → S → Type 0}
       {grew : S → S → List (Assertion F) → Type 0} {refuses : S → AirError → List (Assertion F) → Type 0} {a b : S} {x : I}
       (new more : Lists ℕ ℕ) (result : Result (Unit {0}) AirError)

@@ -19,12 +19,12 @@ module _ {E : Type 0} (r : CommRing E) (alpha : E) where
       let lt : i < k = h 0 0 (omega arith) in
       ap₂ (λ x l. x ∷ l) (get_or-tabulation (powers_of r alpha) (power r alpha) tabulated k (k - 1 - i) d (omega arith)) (weights-by_index k d indices (λ j e b. h (suc j) e (omega arith)))
 
-  -- where the powers below the k-th are given, indices below k are below their number
+  -- if the powers below the k-th are given, indices below k are below their number
   pub below-powers : (k : ℕ) (given powers : List E) (indices below : List ℕ) → given ≡ powers → powers ≡ powers_of r alpha k → indices ≡ below → All (λ i. i < k) below → All (λ i. i < length given) indices
   below-powers k given powers indices below lent are same h =
       subst (λ (l : List ℕ). All (λ i. i < length given) l) (sym same) (subst (λ (m : ℕ). All (λ i. i < m) below) (sym (ap length (lent ∙ are) ∙ length-powers k)) h)
 
-  -- what stands in them at these indices, counted from the last power on, are weights
+  -- the powers at these indices, counted from the last power backwards, are the weights
   pub picked-weights : (k count : ℕ) (given powers : List E) (indices below : List ℕ) (picked : List E) → given ≡ powers → powers ≡ powers_of r alpha k → indices ≡ below → k ≡ count → All (λ i. i < k) below → ((d : E) → picked ≡ map (λ i. get_or given (length given - 1 - i) d) indices) → picked ≡ alpha_powers_at r alpha count below
   picked-weights k count given powers indices below picked lent are same counted h picks =
       picks r.zero
@@ -32,7 +32,7 @@ module _ {E : Type 0} (r : CommRing E) (alpha : E) where
       ∙ (ap (λ m. map (λ i. get_or (powers_of r alpha k) (m - 1 - i) r.zero) below) (length-powers k)
       ∙ (weights-by_index k r.zero below h ∙ ap (λ m. alpha_powers_at r alpha m below) counted)))
 
--- what holds of all of a joined list holds of all of each part
+-- a fact that holds of all of a joined list holds of all of each part
 pub All-left : (P : ℕ → Type 0) (xs ys : List ℕ) → All P (xs ++ ys) → All P xs
 All-left P xs ys h k d b =
     let lt : k < length (xs ++ ys) = omega (arith, length-append xs ys) in

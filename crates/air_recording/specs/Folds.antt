@@ -18,7 +18,7 @@ sum_by_powers r alpha values = sum_below r (λ i. r.mul (alpha_power r alpha (le
 abbrev pub basis_element : {F E : Type 0} → CommRing F → AlgebraOver F E → ℕ → E
 basis_element R a d = a.extend (replicate d R.zero ++ R.one ∷ [])
 
--- the sum of weight times value, place by place
+-- the sum of weight times value, index by index
 abbrev pub weighted_sum : {E : Type 0} → CommRing E → List E → List E → E
 weighted_sum r [] values = r.zero
 weighted_sum r (w ∷ weights) [] = r.zero
@@ -32,7 +32,7 @@ recombination R a coordinates powers base extension =
     (sum_below a.ring (λ d. weighted_sum a.ring (map (λ c. a.ring.mul (a.embed c) (basis_element R a d)) (slice_index_or coordinates d [])) base) (length coordinates))
     (weighted_sum a.ring powers extension)
 
--- the first list has the places of the base kinds, the second those of the extension kinds, in order
+-- the first list has the indices of the base kinds, the second those of the extension kinds, in order
 pub record ArePlacesOf (kinds : List ConstraintKind) (base_indices ext_indices : List ℕ) : Type 0 where
   pub base : base_indices ≡ places_where is_base kinds
   pub extension : ext_indices ≡ places_where is_extension kinds
@@ -41,8 +41,8 @@ pub record ArePlacesOf (kinds : List ConstraintKind) (base_indices ext_indices :
 abbrev pub values_at : {E : Type 0} → CommRing E → List E → List ℕ → List E
 values_at r values indices = map (λ i. slice_index_or values i r.zero) indices
 
--- Of constraints whose kinds stand at these indices, whatever their values, the recombination from these coordinates
--- and powers is Horner's fold of all values in order. Of no constraints it is zero.
+-- For every list of constraints whose kinds have these indices, the recombination from these coordinates and powers is
+-- Horner's fold of the values in order, whatever the values. For the empty list it is zero.
 abbrev pub Recombines : {F E : Type 0} → CommRing F → AlgebraOver F E → E → List ℕ → List ℕ → List (List F) → List E → Type 0
 Recombines {E = E} R a alpha base_indices ext_indices coordinates powers =
     (kinds : List ConstraintKind) (values : List E) → ArePlacesOf kinds base_indices ext_indices → length values ≡ length kinds

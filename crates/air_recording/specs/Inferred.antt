@@ -1,4 +1,4 @@
--- The degree that is inferred, and where it is refused.
+-- The inferred degree, and its errors.
 use Rattle.std.specs.Prelude.{Result, Ok, Err, ◌≡◌, ◌⊎◌, ℕ, ◌≤◌, ◌^◌, max, List, [], ◌∷◌, ◌++◌, Vec, length, map, ⊤}
 use Rattle.air_field.specs.Ring.{CommRing, AlgebraOver, self_algebra}
 use Rattle.air_field.specs.Extension.{Basis}
@@ -22,19 +22,19 @@ use Rattle.air_recording.specs.Recordings.{Recording}
 abbrev pub periods_of : {T A : Type 0} → List (Vec T A) → List ℕ
 periods_of columns = map (λ c. length c.items) columns
 
--- the greatest of these numbers, 0 of none
+-- the greatest of these numbers; 0 for the empty list
 abbrev pub greatest_in : List ℕ → ℕ
 greatest_in [] = 0
 greatest_in (n ∷ ns) = max n (greatest_in ns)
 
--- all terms that were recorded: the base ones, and then the extension ones
+-- all recorded terms: the base terms, and then the extension terms
 abbrev pub recorded_terms : {F E : Type 0} → Basis F E → Recording F E → List (Term F)
 recorded_terms basis recorded =
     terms_of base_reads recorded.pool.base recorded.base ++ terms_of (ext_reads basis) recorded.pool recorded.ext
 
--- The degree inferred for n rows, in a domain of weight w, from terms that record what an AIR declares: base terms over the
--- base field and over the extension, extension terms over the extension. For two rows and more it bounds the degrees of
--- their polynomials wherever the leaves' are within theirs.
+-- The degree inferred for n rows, in a domain of weight w, from terms that record an AIR's declaration: base terms over the
+-- base field and over the extension, extension terms over the extension. For two rows or more it bounds the degrees of their
+-- polynomials if the leaves' polynomials are within their bounds.
 pub record IsInferred {F E : Type 0} (r : CommRing F) (over : AlgebraOver F E) (w n : ℕ) (d : Declaration F) (degree : ℕ) : Type 0 where
   pub base : List (Term F)
   pub ext : List (Term F)
@@ -46,14 +46,14 @@ pub record IsInferred {F E : Type 0} (r : CommRing F) (over : AlgebraOver F E) (
       (leaf_degree w n (periods_of d.periodic)) (polynomial_bound w degree n) base
   pub bounded : 2 ≤ n → PolynomialsWithin over (leaf_degree w n (periods_of d.periodic)) (polynomial_bound w degree n) (base ++ ext)
 
--- the answer is the degree for n rows of these terms, in a domain of weight w; it is refused where their greatest degree,
--- as the domain counts, passes `usize`, and for want of memory
+-- the answer is the degree for n rows of these terms, in a domain of weight w; an error is `DegreeOverflow`, if their
+-- greatest degree, as the domain counts, exceeds `usize`, or `Memory`
 abbrev pub AnswersInferred : {F : Type 0} → ℕ → ℕ → List ℕ → List (Term F) → Result ℕ RingError → Type 0
 AnswersInferred w n periods us (Ok d) = IsDegreeFor w n periods us d
 AnswersInferred w n periods us (Err Memory) = ⊤
 AnswersInferred w n periods us (Err DegreeOverflow) = 2 ^ 64 ≤ greatest_degree (domain_weight w n periods) us
 
--- of terms that record what is declared one has a degree past `usize` by these weights
+-- for some terms that record the declared ones, the greatest degree by these weights exceeds `usize`
 pub record IsDegreeOver {F E : Type 0} (r : CommRing F) (over : AlgebraOver F E) (weights : Leaf → ℕ) (ts : List (Assertion F)) : Type 0 where
   pub base : List (Term F)
   pub ext : List (Term F)
@@ -61,8 +61,8 @@ pub record IsDegreeOver {F E : Type 0} (r : CommRing F) (over : AlgebraOver F E)
   pub ext_recorded : EachRecords over ext (ext_terms ts)
   pub past : 2 ^ 64 ≤ greatest_degree weights (base ++ ext)
 
--- It refuses what the recording refuses, and, where the recording answers, a recorded degree past `usize`, as a domain of
--- weight w counts degrees over n rows.
+-- The errors of the recording and, if the recording answers, `DegreeOverflow` for a recorded degree past `usize`, as a
+-- domain of weight w counts degrees over n rows.
 abbrev pub DegreeRefuses : {F E : Type 0} → CommRing F → AlgebraOver F E → ℕ → ℕ → AirLayout → Declaration F → AirError → Type 0
 DegreeRefuses r over w n layout d e =
     RecordRefuses layout d e

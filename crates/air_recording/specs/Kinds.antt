@@ -1,4 +1,4 @@
--- The base and the extension terms of a declared list, and where they stand in it.
+-- The base and the extension terms of a declared list, and their indices in it.
 use Rattle.std.specs.Prelude.{◌≡◌, ℕ, Bool, true, false, List, [], ◌∷◌, map}
 use Rattle.std.specs.List.{filter, enumerate_from}
 use Rattle.air_field.specs.Term.{Term}
@@ -30,19 +30,19 @@ abbrev pub is_extension : ConstraintKind → Bool
 is_extension kind.Base = false
 is_extension kind.Extension = true
 
--- the same of either kind
+-- the kind is the given one
 abbrev pub is_of : ConstraintKind → ConstraintKind → Bool
 is_of kind.Base = is_base
 is_of kind.Extension = is_extension
 
--- the places, counted from n on, at which the kind is one of those
+-- the indices, counted from n on, at which the kind satisfies `is`
 abbrev pub places_from : (ConstraintKind → Bool) → ℕ → List ConstraintKind → List ℕ
 places_from is n ks = map (λ p. p.0) (filter (λ p. is p.1) (enumerate_from n ks))
 
--- the same, counted from 0 on
+-- as `places_from`, counted from 0 on
 abbrev pub places_where : (ConstraintKind → Bool) → List ConstraintKind → List ℕ
 places_where is ks = places_from is 0 ks
 
--- the kinds of the declared list, at each place its own
+-- the kinds are those of the declared list, in order
 abbrev pub RecordsKinds : {F : Type 0} → List ConstraintKind → List (Assertion F) → Type 0
 RecordsKinds kinds ts = kinds ≡ map kind_of ts

@@ -1,4 +1,4 @@
--- Layouts: as shapes, against what an AIR says it has, and of constraints.
+-- Layouts: as shapes, compared with an AIR's declaration, and of constraints.
 use Rattle.std.specs.Prelude.{◌≡◌, ◌≢◌, ℕ, ◌+◌, ◌<◌, ◌≤◌, ◌^◌, List, length, ◌++◌, All, Option, Some, vec_len, nat_le, ⊤}
 use Rattle.std.specs.List.{find}
 use Rattle.air_field.specs.Assignment.{Shape, IsMissing}
@@ -9,7 +9,7 @@ use Rattle.air_core.specs.declared.errors.AirError.TheVariants.{Memory, CountOve
 use Rattle.air_recording.specs.declared.layouts.air_layout.AirLayout.{AirLayout}
 use Rattle.air_recording.specs.declared.layouts.constraint_layout.ConstraintLayout.{ConstraintLayout}
 
--- how many entries of each kind there are
+-- the number of entries of each kind
 abbrev pub layout_shape : AirLayout → Shape
 layout_shape l = record {
   main_width = l.main_width;
@@ -21,7 +21,7 @@ layout_shape l = record {
   permutation_values = l.num_permutation_values;
 }
 
--- the counts that an AIR says it has, and no permutation data
+-- the counts that an AIR declares, and no permutation data
 abbrev pub air_layout : {F : Type 0} → Declaration F → AirLayout
 air_layout d = record {
   preprocessed_width = table_width d.preprocessed;
@@ -33,7 +33,7 @@ air_layout d = record {
   num_periodic_columns = length d.periodic;
 }
 
--- the layout's counts are those that an AIR says it has; the preprocessed table itself decides how wide it is
+-- the layout's counts are those that an AIR declares; the preprocessed width may differ
 pub record FitsAir {F : Type 0} (l : AirLayout) (d : Declaration F) : Type 0 where
   pub width_is : l.main_width ≡ d.width
   pub public_is : l.num_public_values ≡ d.num_public_values
@@ -54,7 +54,7 @@ pub record LayoutSuits {F : Type 0} (l : AirLayout) (d : Declaration F) : Type 0
   pub fits : FitsAir l d
   pub there : NoneMissing (IsMissing (layout_shape l)) d.constraints
 
--- how many constraints there are
+-- the number of constraints
 abbrev pub constraint_count : ConstraintLayout → ℕ
 constraint_count l = vec_len l.base_indices + vec_len l.ext_indices
 
@@ -71,8 +71,7 @@ pub record IsWithinCount (l : ConstraintLayout) : Type 0 where
   pub fits : constraint_count l < 2 ^ 64
   pub below : All (λ i. i < constraint_count l) (constraint_indices l)
 
--- want of memory, a count past `usize` (no memory holds so many indices), or the first index at or past the count, base
--- indices first
+-- `Memory`; a count past `usize`, which no memory holds; or the first index at or past the count, base indices first
 abbrev pub DecompositionRefuses : ConstraintLayout → AirError → Type 0
 DecompositionRefuses l Memory = ⊤
 DecompositionRefuses l CountOverflow = 2 ^ 64 ≤ constraint_count l

@@ -1,4 +1,4 @@
--- What a recording answers and refuses.
+-- The answers and errors of a recording.
 use Rattle.std.specs.List.{AllZip}
 use Rattle.std.specs.Prelude.{◌≡◌, ◌⊎◌, ℕ, ◌≤◌, ◌<◌, ◌^◌, List, ◌++◌, map}
 use Rattle.air_field.specs.Ring.{CommRing, AlgebraOver, self_algebra}
@@ -18,18 +18,18 @@ use Rattle.air_recording.specs.declared.layouts.air_layout.AirLayout.{AirLayout}
 use Rattle.air_recording.specs.Recording.{OverflowsDegree}
 use Rattle.air_builder.specs.Refused.{Refused}
 
--- a recorded term for one that is declared: in an algebra, the same polynomial (each coefficient) under every assignment
--- of coefficient lists, the same value under every assignment, and a degree that is no greater by any weights
+-- u records the declared term t: in an algebra it has the same polynomial (each coefficient) under every assignment of
+-- coefficient lists, the same value under every assignment, and no greater degree by any weights
 pub record RecordsTerm {F E : Type 0} (a : AlgebraOver F E) (u t : Term F) : Type 0 where
   pub same : (s : Leaf → List E) (n : ℕ) → polynomial a s u n ≡ polynomial a s t n
   pub same_value : (s : Leaf → E) → value a s u ≡ value a s t
   pub degree_le : (w : Leaf → ℕ) → degree_by w u ≤ degree_by w t
 
--- one for each, in order
+-- each of us records its ts, in order
 abbrev pub EachRecords : {F E : Type 0} → AlgebraOver F E → List (Term F) → List (Term F) → Type 0
 EachRecords a us ts = AllZip (RecordsTerm a) us ts
 
--- the terms of these numbers of a pool
+-- the terms of these numbers in a pool
 abbrev pub terms_of : {U A F : Type 0} → (U → Leaves A F) → Pool U A → List ℕ → List (Term F)
 terms_of reads pool is = map (λ i. term_at reads pool i) is
 
@@ -48,8 +48,8 @@ pub record RecordsExt {U A F E : Type 0} (r : CommRing F) (over : AlgebraOver F 
   pub means : AllZip (PoolMeans reads r pool) numbers (ext_terms ts)
   pub terms : EachRecords over (terms_of reads pool numbers) (ext_terms ts)
 
--- A recording refuses the first count of the layout that isn't the AIR's; then want of memory, a declared term that names a
--- missing entry, or one whose degree passes `usize`.
+-- The errors of a recording: the first count of the layout that isn't the AIR's; then `Memory`, a declared term that names a
+-- missing entry, or one whose degree exceeds `usize`.
 abbrev pub RecordRefuses : {F : Type 0} → AirLayout → Declaration F → AirError → Type 0
 RecordRefuses layout d e =
     LayoutRefuses layout d e
@@ -57,8 +57,8 @@ RecordRefuses layout d e =
     × Refused (IsMissing (layout_shape layout)) (OverflowsDegree cached_weight) (λ _. ⊥)
     e d.constraints)
 
--- The recording answers: the layout has the AIR's counts and each entry that a declared term names, and some terms which
--- record what is declared have cached degrees within `usize`.
+-- The recording is Ok: the layout has the AIR's counts and each entry that a declared term names, and some terms that record
+-- the declared ones have cached degrees within `usize`.
 pub record RecordingAnswers {F E : Type 0} (r : CommRing F) (over : AlgebraOver F E) (layout : AirLayout) (d : Declaration F) : Type 0 where
   pub suits : LayoutSuits layout d
   pub base : List (Term F)

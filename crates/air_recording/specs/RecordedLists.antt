@@ -1,4 +1,4 @@
--- What a symbolic builder has recorded, as lists.
+-- The constraints that a symbolic builder has recorded, as lists.
 use Rattle.std.specs.Prelude.{ℕ, []}
 use Rattle.air_symbolic.specs.ExtPool.{ExtNodes}
 use Rattle.air_recording.specs.Recording.{Lists}
@@ -14,7 +14,7 @@ lists_of c = record { base = c.base.items; ext = c.ext.items; kinds = c.kinds.it
 abbrev pub no_lists : Lists ℕ ℕ
 no_lists = record { base = []; ext = []; kinds = [] }
 
--- what a symbolic builder has recorded, its pool, its selectors and its layout
+-- the recorded constraints of a symbolic builder, its pool, its selectors and its layout
 abbrev pub recorded_by : {F EF : Type 0} → SymbolicAirBuilder F EF → Lists ℕ ℕ
 recorded_by b = lists_of b.constraints
 

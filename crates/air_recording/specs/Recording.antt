@@ -1,4 +1,4 @@
--- How a builder that records grows.
+-- Growth of a builder that records.
 use Rattle.std.specs.List.{AllZip}
 use Rattle.std.specs.Prelude.{◌≡◌, ℕ, ◌≤◌, ◌^◌, List, [], ◌∷◌, ◌++◌, map}
 use Rattle.air_field.specs.Term.{Leaf, first_row, last_row, transition, Term, leaf_term}
@@ -9,20 +9,20 @@ use Rattle.air_recording.specs.Kinds.{kind_of, base_terms, ext_terms}
 use Rattle.air_recording.specs.declared.symbolic.kind.ConstraintKind.{ConstraintKind}
 use Rattle.air_recording.specs.declared.symbolic.kind.ConstraintKind.TheVariants as kind
 
--- what a recording builder has beside its pool and its lists: the selectors' expressions, and how many entries there are
+-- a recording builder's other data, beside its pool and its lists: the selectors' expressions, and its shape
 pub record Fixed (E : Type 0) : Type 0 where
   pub on_first_row : E
   pub on_last_row : E
   pub on_transition : E
   pub shape : Shape
 
--- the expressions recorded of each kind, and the kind at each place
+-- the recorded expressions of each kind, and the kind of each constraint
 pub record Lists (E X : Type 0) : Type 0 where
   pub base : List E
   pub ext : List X
   pub kinds : List ConstraintKind
 
--- a base expression more, and an extension expression more
+-- one more base expression, and one more extension expression
 abbrev pub with_base : {E X : Type 0} → Lists E X → E → Lists E X
 with_base l x = record { base = l.base ++ x ∷ []; ext = l.ext; kinds = l.kinds ++ kind.Base ∷ [] }
 
@@ -40,12 +40,12 @@ pub record IsReady {E F : Type 0} (valid : Type 0) (means : E → Term F → Typ
   pub pool : valid
   pub selectors : SelectorsMean means s.on_first_row s.on_last_row s.on_transition
 
--- the pool extends, and the rest stays
+-- the pool is extended, and the rest stays
 pub record KeptRecording {Q E : Type 0} (extends : Q → Q → Type 0) (p q : Q) (s u : Fixed E) : Type 0 where
   pub pool : extends p q
   pub fixed : u ≡ s
 
--- Each assertion got one further expression of its kind, in order, which means it, and one further kind.
+-- Each assertion added one expression of its kind, in order, which means its term, and one kind.
 pub record GrewRecording {Q E X F : Type 0} (base_means : Q → E → Term F → Type 0)
     (ext_means : Q → X → Term F → Type 0) (extends : Q → Q → Type 0) (p q : Q) (s u : Fixed E) (a b : Lists E X)
     (ts : List (Assertion F)) : Type 0 where

@@ -1,4 +1,4 @@
--- Layouts as JSON values: how they are spelt, and how they are read.
+-- Layouts as JSON values: how they are written and read.
 use Rattle.std.specs.Prelude.{◌≡◌, ℕ, List, Option, Some, option_and_then, codes}
 use Rattle.serde_json.specs.Data.{Data, object, member, no_members}
 use Rattle.air_json.specs.Parts.{whole_at}
@@ -7,7 +7,7 @@ use Rattle.air_json.specs.WholeNumbers.{wholes_data, HasWholes}
 use Rattle.air_recording.specs.declared.layouts.air_layout.AirLayout.{AirLayout}
 use Rattle.air_recording.specs.declared.layouts.constraint_layout.ConstraintLayout.{ConstraintLayout}
 
--- ---- what is written
+-- ---- the written values
 
 abbrev pub layout_data : AirLayout → Data
 layout_data l = object (
@@ -24,7 +24,7 @@ constraints_data l = object (
     member (codes "base_indices") (wholes_data l.base_indices.items) (
     member (codes "ext_indices") (wholes_data l.ext_indices.items) no_members))
 
--- ---- what spells a layout: further keys of the object are ignored
+-- ---- a value that spells a layout; further keys of the object are ignored
 
 pub record SpellsLayout (d : Data) (l : AirLayout) : Type 0 where
   pub preprocessed : HasWhole (codes "preprocessed_width") l.preprocessed_width d
@@ -39,14 +39,14 @@ pub record SpellsConstraints (d : Data) (l : ConstraintLayout) : Type 0 where
   pub base : HasWholes (codes "base_indices") l.base_indices.items d
   pub ext : HasWholes (codes "ext_indices") l.ext_indices.items d
 
--- they have the same indices
+-- both have the same indices
 pub record HaveSameIndices (l m : ConstraintLayout) : Type 0 where
   pub base : l.base_indices.items ≡ m.base_indices.items
   pub ext : l.ext_indices.items ≡ m.ext_indices.items
 
 -- ---- how a reader finds them
 
--- what stands behind the whole number that is a field of this name, where there is one
+-- passes the whole number in the field of this name on to `next`; None without one
 abbrev pub with_count : List ℕ → Data → (ℕ → Option AirLayout) → Option AirLayout
 with_count name d next = option_and_then next (whole_at name d)
 

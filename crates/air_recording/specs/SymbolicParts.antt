@@ -1,4 +1,4 @@
--- What a symbolic builder keeps beside its pool and its lists, and what its pool has from the start.
+-- The selectors of a symbolic builder and its shape; elements of its base pool in its whole pool.
 use Rattle.std.specs.Prelude.{ℕ, Some}
 use Rattle.air_field.specs.Ring.{CommRing}
 use Rattle.air_field.specs.Extension.{Basis}
@@ -14,7 +14,7 @@ use Rattle.air_recording.specs.Recording.{Fixed}
 use Rattle.air_recording.specs.declared.layouts.air_layout.AirLayout.{AirLayout}
 use Rattle.air_recording.specs.declared.symbolic.selectors.Selectors.{Selectors}
 
--- the selectors' expressions, and how many entries the layout has
+-- the selectors' expressions, and the layout's shape
 abbrev pub fixed_by : {F : Type 0} → Selectors F → AirLayout → Fixed ℕ
 fixed_by s layout = record {
   on_first_row = s.first_row;
@@ -29,7 +29,7 @@ pub record SelectorsAreLeaves {F : Type 0} (pool : BaseNodes F) (s : Selectors F
   pub last : HasTree pool (Some (leaf_tree IsLastRow)) s.last_row
   pub step : HasTree pool (Some (leaf_tree IsTransition)) s.transition
 
--- what is of the base pool that lies under an extension pool, and means a term there, is and does in the extension pool
+-- an element of an extension pool's base pool is in the base of the extension pool, and means its term there
 module _ {F EF : Type 0} (basis : Basis F EF) where
   pub base_has_it : (p : ExtNodes F EF) (x : ℕ) → IsPool (ext_reads basis) p → PoolHas base_reads p.base x → BaseHas basis p x
   base_has_it p x w h = record { pool = w; base = h }

@@ -1,4 +1,4 @@
-//! How many entries of each kind a builder has, and the order of what it records.
+//! The layouts of a builder's entries and of its recorded constraints.
 
 pub mod air_layout;
 pub mod constraint_layout;

@@ -1,5 +1,7 @@
-//! The recording of an AIR as symbolic expressions: the symbolic builder, the lists of what it recorded, the layouts of
-//! entries and of constraints, and the degree inferred from a recording.
+//! The recording of an AIR as symbolic expressions: the symbolic builder, the lists of its recorded constraints, the
+//! layouts of entries and of constraints, and the degree inferred from a recording.
+//!
+//! Calls fail only with `Memory` unless they say otherwise.
 #![tactic(auto)]
 
 pub mod layouts;

@@ -1,4 +1,4 @@
--- The list of differing cells grows cell by cell.
+-- The list of differing boundary values grows by one at a time.
 use Rattle.std.proofs.Common.{◌≡◌, ℕ, suc, ◌+◌, ◌-◌, ◌<◌, ◌≤◌, ◌^◌, min, List, [], ◌∷◌, ◌++◌, map, length, take, drop, get_or, Bool, true, false, cond, Option, None, Some, slice_get, refl, sym, ap, ◌∙◌, subst, arith, append_assoc, length-append}
 use Rattle.std.specs.List.{filter, enumerate_from}
 use Rattle.std.proofs.lemmas.List.{map-append, take_more, take_all, length-take, length-map, take-append-le, take-append-drop, append-nil}
@@ -12,13 +12,13 @@ use Rattle.air_report.specs.Report.{failure_place, IsReached}
 use Rattle.air_report.specs.laws.Debug.{enumerate_from-append}
 use Rattle.air_report.specs.declared.debug.failure.ConstraintFailure.{ConstraintFailure}
 
--- a cap that isn't reached leaves all
+-- a cap that isn't reached leaves all elements
 below_cap : {X : Type 0} (cap n : ℕ) (xs : List X) → (cap ≤ n + length (take (cap - n) xs) → ⊥) → length xs + 1 ≤ cap - n
 below_cap cap n xs h =
     let lens : length (take (cap - n) xs) ≡ min (cap - n) (length xs) = length-take (cap - n) xs in
     omega (arith, lens, h)
 
--- one more after those that a cap has left, where it isn't reached
+-- one more element after those that a cap has left, if it isn't reached
 left_of-more : {X : Type 0} (cap : Option ℕ) (n : ℕ) (xs : List X) (x : X) → (IsReached cap (n + length (take_within_cap cap n xs)) → ⊥) → take_within_cap cap n (xs ++ x ∷ []) ≡ take_within_cap cap n xs ++ x ∷ []
 left_of-more None n xs x h = refl
 left_of-more (Some cap) n xs x h =
@@ -26,7 +26,7 @@ left_of-more (Some cap) n xs x h =
     let fit : length (xs ++ x ∷ []) ≤ cap - n = omega (arith, length-append xs (x ∷ [])) in
     take_all (cap - n) (xs ++ x ∷ []) fit ∙ ap (λ l. l ++ x ∷ []) (sym (take_all (cap - n) xs (omega arith)))
 
--- where the cap is reached the rest adds nothing
+-- if the cap is reached, the rest adds nothing
 left_of-full : {X : Type 0} (cap : Option ℕ) (n : ℕ) (xs ys : List X) → IsReached cap (n + length (take_within_cap cap n xs)) → take_within_cap cap n (xs ++ ys) ≡ take_within_cap cap n xs
 left_of-full None n xs ys h = absurd h
 left_of-full (Some cap) n xs ys h =
@@ -37,7 +37,7 @@ get_seam : {X : Type 0} (xs : List X) (x : X) (ys : List X) → slice_get (xs ++
 get_seam [] x ys = refl
 get_seam (y ∷ xs) x ys = get_seam xs x ys
 
--- the next one is among those that a cap leaves, where it isn't reached
+-- the next element is among those that a cap leaves, if it isn't reached
 left_of-next : {X : Type 0} (cap : Option ℕ) (n : ℕ) (xs : List X) (x : X) (ys : List X) → (IsReached cap (n + length (take_within_cap cap n xs)) → ⊥) → slice_get (take_within_cap cap n (xs ++ x ∷ ys)) (length xs) ≡ Some x
 left_of-next None n xs x ys h = get_seam xs x ys
 left_of-next (Some cap) n xs x ys h =
@@ -93,12 +93,12 @@ module _ {F : Type 0} (r : CommRing F) (eq : F → F → Bool) (main : Grid F) (
       ∙ (differing-append (take i cells) (get_or cells i d ∷ [])
       ∙ ap (λ n. differing_cells r eq main public (take i cells) ++ filter test (enumerate_from n (get_or cells i d ∷ []))) e)
 
-  -- all of them, from the first i and the rest
+  -- all differing boundary values, from the first i and the rest
   differing-rest : (cells : List BoundaryPublic) (i : ℕ) → differing_cells r eq main public cells ≡ differing_cells r eq main public (take i cells) ++ filter (λ p. differs r eq main public p.1) (enumerate_from (length (take i cells)) (drop i cells))
   differing-rest cells i = ap (differing_cells r eq main public) (sym (take-append-drop i cells)) ∙ differing-append (take i cells) (drop i cells)
 
   module _ (height count : ℕ) (cap : Option ℕ) (cells : List BoundaryPublic) (i : ℕ) (fs gs : List ConstraintFailure) (l : ListsCells height count (take_within_cap cap (length fs) (differing_cells r eq main public (take i cells))) fs gs) where
-    -- a cell that holds its value adds nothing
+    -- a boundary value that doesn't differ adds nothing
     pub lists_same : (d : BoundaryPublic) → i < length cells → differs r eq main public (get_or cells i d) ≡ false → ListsCells height count (take_within_cap cap (length fs) (differing_cells r eq main public (take (i + 1) cells))) fs gs
     lists_same d lt e =
         let same : differing_cells r eq main public (take (i + 1) cells) ≡ differing_cells r eq main public (take i cells) =
@@ -110,7 +110,7 @@ module _ {F : Type 0} (r : CommRing F) (eq : F → F → Bool) (main : Grid F) (
         let e : length gs ≡ length fs + length (take_within_cap cap (length fs) (differing_cells r eq main public (take i cells))) = length-lists height count (take_within_cap cap (length fs) (differing_cells r eq main public (take i cells))) fs gs l in
         few (subst (λ n. IsReached cap n) (sym e) h)
 
-    -- a cell that differs is listed, where the cap isn't reached
+    -- a boundary value that differs is listed, if the cap isn't reached
     pub lists_new : (d : BoundaryPublic) (f : ConstraintFailure) (hs : List ConstraintFailure) → i < length cells → differs r eq main public (get_or cells i d) ≡ true → (IsReached cap (length gs) → ⊥) → hs ≡ gs ++ f ∷ [] → failure_place f ≡ cell_place height count (i, get_or cells i d) → label_text f ≡ Some (cell_label (get_or cells i d)) → ListsCells height count (take_within_cap cap (length fs) (differing_cells r eq main public (take (i + 1) cells))) fs hs
     lists_new d f hs lt e few push place label =
         let before = differing_cells r eq main public (take i cells) in
@@ -120,7 +120,7 @@ module _ {F : Type 0} (r : CommRing F) (eq : F → F → Bool) (main : Grid F) (
         let all = ap (take_within_cap cap (length fs)) more ∙ left_of-more cap (length fs) before cell (open_cap few) in
         subst (λ xs. ListsCells height count xs fs hs) (sym all) (lists_one height count (take_within_cap cap (length fs) before) cell fs gs hs f l push place label)
 
-    -- where the cap is reached, all are listed that it leaves
+    -- if the cap is reached, all that it leaves are listed
     pub lists_full : IsReached cap (length gs) → ListsCells height count (take_within_cap cap (length fs) (differing_cells r eq main public cells)) fs gs
     lists_full full =
         let before = differing_cells r eq main public (take i cells) in
@@ -128,7 +128,7 @@ module _ {F : Type 0} (r : CommRing F) (eq : F → F → Bool) (main : Grid F) (
         let all = ap (take_within_cap cap (length fs)) (differing-rest cells i) ∙ left_of-full cap (length fs) before _ (subst (λ n. IsReached cap n) e full) in
         subst (λ xs. ListsCells height count xs fs gs) (sym all) l
 
-    -- a cell that differs is among those that are listed, where the cap isn't reached
+    -- a boundary value that differs is among the listed ones, if the cap isn't reached
     pub listed_past : (d : BoundaryPublic) → i < length cells → differs r eq main public (get_or cells i d) ≡ true → (IsReached cap (length gs) → ⊥) → 2 ^ 64 ≤ count + i → IsListedPast count (take_within_cap cap (length fs) (differing_cells r eq main public cells))
     listed_past d lt e few past =
         let before = differing_cells r eq main public (take i cells) in

@@ -1,4 +1,4 @@
--- a list of failures, printed one failure after another
+-- The text of a list of failures, one failure after another.
 use Rattle.std.proofs.Common.{◌≡◌, ℕ, ◌+◌, ◌<◌, ◌≤◌, zero, suc, List, [], ◌∷◌, ◌++◌, Option, Some, None, if◌then◌else◌, ◌==◌, drop, length, get_or, refl, sym, ap, ◌∙◌, subst, append_assoc, append-nil, arith, add-one}
 use Rattle.std.proofs.Math.Dec.{eqb-suc-zero}
 use Rattle.std.proofs.lemmas.List.{drop_more}
@@ -12,7 +12,7 @@ pub record HasListed (failures : List ConstraintFailure) (i : ℕ) (text : List 
       → (tail : List ℕ) × (debug_items shown_failure (if i == 0 then [] else comma_space) (drop i failures) ≡ Some tail)
       × (whole ≡ text ++ (tail ++ 93 ∷ []))
 
--- both parts of a text that is there are there
+-- if the text of two parts is specified, so is each part
 pub append-some : (o p : Option (List ℕ)) (r : List ℕ) → (o ++? p) ≡ Some r
     → (a : List ℕ) × (b : List ℕ) × (o ≡ Some a) × (p ≡ Some b) × (r ≡ a ++ b)
 append-some None p r e = cc
@@ -23,7 +23,7 @@ append-some (Some a) (Some b) r e = (a, b, refl, refl, cc)
 after_text : (old new : List ℕ) (o : Option (List ℕ)) (t : List ℕ) → o ≡ Some t → AppendsText old new o → new ≡ old ++ t
 after_text old new o t e h = let P : Option (List ℕ) → Type 0 = λ v. AppendsText old new v in subst P e h
 
--- what stands before the failure at i
+-- the text before the failure at i
 lead_at : (i : ℕ) (old mid : List ℕ) → (0 < i → mid ≡ old ++ comma_space) → (i ≤ 0 → mid ≡ old)
     → mid ≡ old ++ (if i == 0 then [] else comma_space)
 lead_at zero old mid later first = first (omega arith) ∙ sym (append-nil old)

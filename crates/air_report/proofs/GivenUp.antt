@@ -1,4 +1,4 @@
--- What a check that gives up answers, and what it was given.
+-- The errors of a check that stops, in terms of its arguments.
 use Rattle.std.specs.Global.{Global}
 use Rattle.std.specs.Result.{IsErrAnd}
 use Rattle.std.proofs.Common.{◌≡◌, ℕ, ◌⊎◌, inl, inr, List, map, length, Bool, Option, Result, Vec, IfErr, sym, ap, ◌∙◌, subst}
@@ -15,13 +15,13 @@ use Rattle.air_report.specs.Report.{failure_place, report_of, constraints_counte
 use Rattle.air_report.specs.Shapes.{ShapesFit, IsShapeFault, table_height}
 use Rattle.air_report.specs.declared.debug.failure.ConstraintFailure.{ConstraintFailure}
 
--- a `?` gave up with this error
+-- a `?` returned this error
 pub error_is : {X E : Type 0} (result : Result X E) {e : E} → IsErrAnd result (λ x. x ≡ e) → (Q : E → Type 0) → Q e → IfErr result Q
 error_is result p Q h =
     let q = err_from_is_err_and result p in
     rw (q.1, q.2) h
 
--- the shapes that were looked at are the given ones
+-- the checked shapes are those of the instance
 module _ {F : Type 0} (g : Instance F) {columns : List (Vec F Global)} {h : ℕ} {t : Option ℕ}
     (same : columns ≡ g.air.periodic) (high : h ≡ row_count g) (table : t ≡ table_height g.air.preprocessed) where
   pub instance_fits : ShapesFit columns h t → Fits g
@@ -37,7 +37,7 @@ module _ {F : Type 0} (g : Instance F) {columns : List (Vec F Global)} {h : ℕ}
       (subst (λ n. IsShapeFault columns n (table_height g.air.preprocessed) e) high
       (subst (λ o. IsShapeFault columns h o e) table fault))
 
--- a list of cells that gave up
+-- the errors of listing the boundary values
 pub cells_refused : {F : Type 0} (r : CommRing F) (eq : F → F → Bool) (g : Instance F) (cap : Option ℕ) (shown : ℕ)
     (fs : List ConstraintFailure) (count : ℕ) (cells : List BoundaryPublic) (e : AirError)
     → Fits g → RowsRan r eq g cap shown → CellsFit g.main g.public g.air.cells

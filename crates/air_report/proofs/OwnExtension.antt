@@ -1,4 +1,4 @@
--- What is zero at a row where a field is its own extension, and there is no permutation data.
+-- The zero assertions at a row, where a field is its own extension and there is no permutation data.
 use Rattle.std.specs.Prelude.{◌≡◌, ℕ, zero, suc, List, Bool, false, refl}
 use Rattle.std.proofs.Common.{◌∙◌, ap}
 use Rattle.air_field.specs.Ring.{CommRing, AlgebraOver, self_algebra}
@@ -30,7 +30,7 @@ module _ {F : Type 0} (r : CommRing F) where
     own_zero row v (Base t) = refl
     own_zero row v (Extension t) = ap (λ s. eq (value (self_algebra r) s t) r.zero) (λ i l. own_leaf v l i)
 
-    -- the places that aren't zero
+    -- the indices of the nonzero assertions
     pub own_nonzero : (a : AlgebraOver F F) → a ≡ self_algebra r → (row : ℕ) (v : RowValues F) (m : ℕ) (ts : List (Assertion F)) → nonzero_by (is_zero_at r a eq eq (record { row = row; values = v; has_permutation = false; permutation = no_permutation })) m ts ≡ nonzero_from r eq (leaf_value r.zero v) m ts
     own_nonzero a e row v m ts =
         ap (λ b. nonzero_by (is_zero_at r b eq eq (record { row = row; values = v; has_permutation = false; permutation = no_permutation })) m ts) e

@@ -1,4 +1,4 @@
--- The report grows by a row's places.
+-- The report grows by the nonzero pairs of a row.
 use Rattle.std.proofs.Common.{◌≡◌, ℕ, ◌+◌, List, ◌++◌, map, length, Bool, Option, None, Some, refl, sym, ◌∙◌, ap, subst, arith, add-one}
 use Rattle.std.proofs.lemmas.List.{length-map, map-append}
 use Rattle.std.proofs.Math.Dec.{eqb-suc-zero}
@@ -13,7 +13,7 @@ use Rattle.air_report.specs.Report.{failure_place, report_of, constraints_counte
 use Rattle.air_report.specs.declared.debug.failure.ConstraintFailure.{ConstraintFailure}
 
 module _ {F : Type 0} (r : CommRing F) (eq : F → F → Bool) (g : Instance F) where
-  -- what a checked row adds are its places
+  -- a checked row adds its nonzero pairs
   pub checked_more : (row : ℕ) (fs gs : List ConstraintFailure) (count : ℕ) → CheckedRow r eq g row fs gs count
       → map failure_place fs ≡ report_of r eq (instance_trace g) g.air.constraints row
       → map failure_place gs ≡ report_of r eq (instance_trace g) g.air.constraints (row + 1)
@@ -24,16 +24,16 @@ module _ {F : Type 0} (r : CommRing F) (eq : F → F → Bool) (g : Instance F) 
       ∙ (ap (λ l. report_of r eq (instance_trace g) g.air.constraints row ++ l) checked.places
       ∙ sym (report_of-more r eq (instance_trace g) g.air.constraints row))))
 
--- where a row ran, the count is that of the list
+-- if a row ran, the count is the length of the list
 pub count_shown-more : {F : Type 0} (ts : List (Assertion F)) (n : ℕ) → length ts ≡ constraints_counted ts (n + 1)
 count_shown-more ts n = rw (add-one, eqb-suc-zero n) refl
 
--- a cap that is reached at first is reached ever after
+-- a cap that is reached at 0 failures is always reached
 pub reached_later : (cap : Option ℕ) (n : ℕ) → IsReached cap 0 → IsReached cap n
 reached_later None n h = h
 reached_later (Some cap) n h = omega (arith, h)
 
--- the cells that are listed after the failures of the rows
+-- the boundary values that are listed after the failures of the rows
 pub listed_after : {F : Type 0} (r : CommRing F) (eq : F → F → Bool) (g : Instance F) (cap : Option ℕ) (shown : ℕ) (fs gs : List ConstraintFailure) (count : ℕ) (cells : List BoundaryPublic) → map failure_place fs ≡ report_of r eq (instance_trace g) g.air.constraints shown → count ≡ constraints_counted g.air.constraints shown → cells ≡ g.air.cells → ListsCells (row_count g) count (take_within_cap cap (length fs) (differing_cells r eq g.main g.public cells)) fs gs → ListsCells (row_count g) (constraints_counted g.air.constraints shown) (listed_cells r eq g cap shown) fs gs
 listed_after r eq g cap shown fs gs count cells places counted same l =
     let len : length fs ≡ length (report_of r eq (instance_trace g) g.air.constraints shown) = sym (length-map fs failure_place) ∙ ap length places in

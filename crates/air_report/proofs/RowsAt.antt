@@ -1,4 +1,4 @@
--- What the debug builder of a checked row holds is what stands at that row of the trace.
+-- The debug builder of a checked row holds the values of that row of the trace.
 use Rattle.std.proofs.Common.{◌≡◌, ℕ, zero, suc, ◌+◌, ◌%◌, ◌^◌, ◌<◌, List, [], ◌∷◌, ◌++◌, map, length, Bool, true, false, not, Some, None, Option, Vec, Global, slice_get, slice_index_or, refl, sym, ap, ap₂, subst, ◌∙◌, arith}
 use Rattle.std.specs.Prelude.{◌==◌, ◌⊎◌, if◌then◌else◌}
 use Rattle.std.proofs.Math.Nat.{pow-suc}
@@ -30,7 +30,7 @@ use Rattle.air_report.proofs.OwnExtension.{own_nonzero}
 not_selector : {F : Type 0} (r : CommRing F) (b : Bool) → selector r (not b) ≡ (if b then r.zero else r.one)
 not_selector r b = elim b as (λ c. selector r (not c) ≡ (if c then r.zero else r.one)) [ true ↦ refl | false ↦ refl ]
 
--- each column's value, where each has one
+-- the periodic values, if each column has one
 periodic_is : {F A : Type 0} (z : F) (i : ℕ) (ps : List F) (cs : List (Vec F A)) → map Some ps ≡ map (column_at i) cs → ps ≡ map (λ column. slice_index_or column (i % length column) z) (map (λ c. c.items) cs)
 periodic_is z i [] [] e = refl
 periodic_is z i [] (c ∷ cs) e = cc
@@ -41,17 +41,17 @@ periodic_is z i (p ∷ ps) (c ∷ cs) e =
     ap (λ v. v ∷ ps) (sym (get_or_from_slice_get c.items (i % length c.items) p z here))
     ∙ ap (λ l. slice_index_or c.items (i % length c.items) z ∷ l) (periodic_is z i ps cs rest)
 
--- a table that fits goes round as the trace does
+-- a preprocessed trace that fits wraps around as the trace does
 around_table : {F : Type 0} (t : Option (Grid F)) (h i : ℕ) → FitsHeight (table_height t) h
     → row_or_none (slice_get (table_grid t).rows ((i + 1) % length (table_grid t).rows)) ≡ row_or_none (slice_get (table_grid t).rows ((i + 1) % h))
 around_table None h i f = refl
 around_table (Some table) h i f = ap (λ n. row_or_none (slice_get table.rows ((i + 1) % n))) f
 
--- a builder at a row of a trace that is checked
+-- a builder at a row of a checked trace
 module _ {F : Type 0} (g : Instance F) {i : ℕ} {pair table : ViewPair F} {selected : Selectors F} {row : Row F}
     {periodic : Vec F Global} {fs : List ConstraintFailure} {b : DebugConstraintBuilder F F}
     (made : IsRow i pair table g.public selected row) (at : StandsAt row periodic fs b) where
-  -- where it holds what stands at its row of the trace, it grows by what the check of the row adds
+  -- if the builder holds the values of its row of the trace, it grows by the failures that the check of the row adds
   pub checked_row : {r : CommRing F} {eq : F → F → Bool} {over : AlgebraOver F F} {e : RowData F F} {n : ℕ} {gs hs : List ConstraintFailure}
       → over ≡ self_algebra r → debug_row b ≡ record { row = i; values = row_at r (instance_trace g) i; has_permutation = false; permutation = no_permutation } → hs ≡ gs
       → GrewAtRow (is_zero_at r over eq eq) (debug_row b) e b.constraint_index n b.failures.items gs g.air.constraints
@@ -66,13 +66,13 @@ module _ {F : Type 0} (g : Instance F) {i : ℕ} {pair table : ViewPair F} {sele
         constraints = omega (arith, grew.count, at.constraint_index);
       }
 
-  -- the table that its preprocessed rows are of, and its periodic row
+  -- the preprocessed trace of its preprocessed rows, and its periodic row
   module _ {t : Option (Grid F)} (same : t ≡ g.air.preprocessed) (p : map Some periodic.items ≡ map (column_at i) g.air.periodic) where
     holds : debug_row b ≡ row_data i pair.top.values.now pair.bottom.values.now
         table.top.values.now table.bottom.values.now periodic.items g.public selected.is_first_row selected.is_last_row selected.is_transition false no_permutation
     holds = rw (at.row, made.index, made.main, made.preprocessed, made.preprocessed_next, made.public_values, made.selectors, at.periodic_row, at.permutation, at.permutation_challenges, at.permutation_values)
 
-    -- it holds what stands at its row of the trace
+    -- the builder holds the values of its row of the trace
     pub row_at-given : (r : CommRing F) → Fits g → slice_get g.main.rows i ≡ Some pair.top.values.now
         → slice_get g.main.rows ((i + 1) % length g.main.rows) ≡ Some pair.bottom.values.now
         → table.top.values.now ≡ row_or_none (slice_get (table_grid t).rows i)
@@ -89,7 +89,7 @@ module _ {F : Type 0} (g : Instance F) {i : ℕ} {pair table : ViewPair F} {sele
         let k = not_selector r (i + 1 == length g.main.rows) in
         holds ∙ rw (c, n, u, v, q, selectors, k)
 
-    -- it has what the trace has
+    -- the builder has the shape of the trace
     pub shape-given : length pair.top.values.now ≡ g.main.width → length table.top.values.now ≡ (table_grid t).width
         → one_row_shape (debug_row b).values (debug_row b).permutation ≡ trace_shape (instance_trace g)
     shape-given c w =
@@ -98,7 +98,7 @@ module _ {F : Type 0} (g : Instance F) {i : ℕ} {pair table : ViewPair F} {sele
         sym (length-map periodic.items Some) ∙ (ap length p ∙ (length-map g.air.periodic (column_at i) ∙ sym (length-map g.air.periodic (λ column. column.items)))) in
         ap (λ d. one_row_shape d.values d.permutation) holds ∙ rw (c, u, n)
 
-    -- so it refuses what the check of the row does
+    -- so it refuses as the check of the row does
     pub row_refusal : length pair.top.values.now ≡ g.main.width → length table.top.values.now ≡ (table_grid t).width
         → {zero : RowData F F → Assertion F → Bool} (e : AirError)
         → (e ≡ Memory) ⊎ RefusedAtRow zero (debug_row b) b.constraint_index e g.air.constraints → RowRefuses g e
@@ -118,7 +118,7 @@ none_empty g (c ∷ cs) e f index h =
     let zero_long : length (slice_index_or g.air.periodic index c).items ≡ 0 = subst (λ l. length (slice_index_or l index c).items ≡ 0) e (h.is_empty c) in
     no_empty_power fit.0.0 (sym zero_long ∙ fit.0.1)
 
--- columns that fit aren't empty, so that a row of them is refused for want of memory alone
+-- columns that fit aren't empty, so filling a row of them fails only with `Memory`
 pub periodic_refusal : {F : Type 0} (g : Instance F) (e : AirError) → Fits g → RefusesPeriodicRow g.air.periodic e → RowRefuses g e
 periodic_refusal g Memory f h = tt
 periodic_refusal g (EmptyPeriodicColumn index) f h = absurd (none_empty g g.air.periodic refl f index h)

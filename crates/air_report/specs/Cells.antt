@@ -1,4 +1,4 @@
--- Boundary cells of a trace: which of them differ from their public values, and how these are listed.
+-- Boundary values of a trace: which of them differ from their public values, and how these are listed.
 use Rattle.std.specs.Prelude.{◌≡◌, ◌≢◌, ℕ, ◌+◌, ◌-◌, ◌<◌, ◌≤◌, ◌^◌, List, [], ◌++◌, length, map, take, Bool, true}
 use Rattle.std.specs.Prelude.{false, not, Option, None, Some, String, codes, decimal, string_bytes, slice_get}
 use Rattle.std.specs.Prelude.{slice_index_or, HoldsAt}
@@ -15,24 +15,24 @@ use Rattle.air_core.specs.declared.errors.AirError.TheVariants.{Boundary, EmptyT
 use Rattle.air_report.specs.Report.{failure_place}
 use Rattle.air_report.specs.declared.debug.failure.ConstraintFailure.{ConstraintFailure}
 
--- the value in a cell of the trace, z where there is no such cell
+-- the value in a cell of the trace; z if there is no such cell
 abbrev pub cell_value : {F : Type 0} → F → Grid F → BoundaryPublic → F
 cell_value z main cell = slice_index_or (row_or_none (slice_get main.rows (row_of cell.end (length main.rows)))) cell.column z
 
--- the cell doesn't hold its public value
+-- the boundary value differs from its public value
 abbrev pub differs : {F : Type 0} → CommRing F → (F → F → Bool) → Grid F → List F → BoundaryPublic → Bool
 differs r eq main public cell = not (eq (cell_value r.zero main cell) (slice_index_or public cell.public_value r.zero))
 
--- the differing cells, each with its place in the list
+-- the boundary values that differ, each with its index in the list
 abbrev pub differing_cells : {F : Type 0} → CommRing F → (F → F → Bool) → Grid F → List F → List BoundaryPublic → List (ℕ × BoundaryPublic)
 differing_cells r eq main public cells = filter (λ p. differs r eq main public p.1) (enumerate_from 0 cells)
 
--- as many as a cap leaves after n failures
+-- as many of the first elements as a cap leaves after n failures
 abbrev pub take_within_cap : {X : Type 0} → Option ℕ → ℕ → List X → List X
 take_within_cap None n xs = xs
 take_within_cap (Some cap) n xs = take (cap - n) xs
 
--- where a cell's failure stands: its row of h, and its place after the constraints
+-- the row and constraint index of a boundary value's failure, for h rows and `count` constraints a row
 abbrev pub cell_place : ℕ → ℕ → ℕ × BoundaryPublic → ℕ × ℕ
 cell_place h count p = (row_of p.1.end h, count + p.0)
 
@@ -47,39 +47,39 @@ bytes_of_text (Some s) = Some (string_bytes s)
 abbrev pub label_text : ConstraintFailure → Option (List ℕ)
 label_text f = bytes_of_text f.label
 
--- a cell is listed only where the trace has rows
+-- boundary values need a trace with rows
 abbrev pub HasRowsFor : ℕ → List BoundaryPublic → Type 0
 HasRowsFor h cells = cells ≢ [] → 0 < h
 
--- the cells are cells of the trace, each once, and hold public values that are there
+-- the boundary values are cells of the trace, each listed once, with public values that exist, and there are rows for them
 pub record CellsFit {F : Type 0} (main : Grid F) (public : List F) (cells : List BoundaryPublic) : Type 0 where
   pub sound : AreSound main.width (length public) cells
   pub rows_there : HasRowsFor (length main.rows) cells
 
--- the first cell that isn't sound, or cells and no rows
+-- the first boundary value that isn't sound, or boundary values and no rows
 abbrev pub IsCellFault : {F : Type 0} → Grid F → List F → List BoundaryPublic → AirError → Type 0
 IsCellFault main public cells (Boundary e) = IsFirstFault main.width (length public) cells e
 IsCellFault main public cells EmptyTrace = AreSound main.width (length public) cells × (cells ≢ []) × (length main.rows ≡ 0)
 IsCellFault main public cells _ = ⊥
 
--- each of the first n cells holds its public value
+-- each of the first n boundary values equals its public value
 abbrev pub AgreeBelow : {F : Type 0} → CommRing F → (F → F → Bool) → Grid F → List F → List BoundaryPublic → ℕ → Type 0
 AgreeBelow r eq main public cells n = EachOfFirst (λ k cell. differs r eq main public cell ≡ false) cells n
 
--- the first cell that differs stands here, in this row
+-- the index of the first boundary value that differs
 pub record IsFirstDiffering {F : Type 0} (r : CommRing F) (eq : F → F → Bool) (main : Grid F) (public : List F) (cells : List BoundaryPublic) (index : ℕ) : Type 0 where
   pub within : index < length cells
   pub before : AgreeBelow r eq main public cells index
   pub differs_here : HoldsAt (λ cell. differs r eq main public cell ≡ true) cells index
 
--- The failures got one more for each of these cells, in order: at its place, and with its label.
+-- One failure was added for each of these boundary values, in order, with its row, index and label.
 pub record ListsCells (h count : ℕ) (cells : List (ℕ × BoundaryPublic)) (fs gs : List ConstraintFailure) : Type 0 where
   pub more : List ConstraintFailure
   pub failures : gs ≡ fs ++ more
   pub places : map failure_place more ≡ map (cell_place h count) cells
   pub labels : map label_text more ≡ map (λ p. Some (cell_label p.1)) cells
 
--- the place of one of these cells, after so many constraints, passes `usize`
+-- the constraint index of one of these boundary values, after `count` constraints, exceeds `usize`
 pub record IsListedPast (count : ℕ) (cells : List (ℕ × BoundaryPublic)) : Type 0 where
   pub at : ℕ
   pub cell : ℕ × BoundaryPublic

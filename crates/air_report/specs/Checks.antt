@@ -1,4 +1,4 @@
--- What a check of a trace answers and refuses.
+-- The answers and errors of a check of a trace.
 use Rattle.std.specs.Prelude.{◌≡◌, ◌≢◌, ◌⊎◌, ℕ, ◌+◌, ◌<◌, List, [], ◌++◌, length, map, Bool, Option, None, HoldsAt}
 use Rattle.air_field.specs.Ring.{CommRing}
 use Rattle.air_field.specs.Assignment.{trace_shape, row_assignment, IsMissing}
@@ -23,14 +23,14 @@ use Rattle.air_report.specs.declared.checks.report.ConstraintReport.{ConstraintR
 abbrev pub HasEntries : {F : Type 0} → Instance F → Type 0
 HasEntries g = NoneMissing (IsMissing (trace_shape (instance_trace g))) g.air.constraints
 
--- The failures got the places of one row at which a term isn't zero, in order; the row has so many constraints.
+-- A failure was added for each nonzero term of the row, in order; `count` is the number of constraints.
 pub record CheckedRow {F : Type 0} (r : CommRing F) (eq : F → F → Bool) (g : Instance F) (row : ℕ) (fs gs : List ConstraintFailure) (count : ℕ) : Type 0 where
   pub more : List ConstraintFailure
   pub failures : gs ≡ fs ++ more
   pub places : map failure_place more ≡ map (λ k. (row, k)) (nonzero_from r eq (row_assignment r (instance_trace g) row) 0 g.air.constraints)
   pub constraints : count ≡ length g.air.constraints
 
--- The rows that a cap shows; where there is one, the trace has the entries.
+-- The rows that a cap shows; if there is one, the trace has the entries.
 pub record RowsRan {F : Type 0} (r : CommRing F) (eq : F → F → Bool) (g : Instance F) (cap : Option ℕ) (shown : ℕ) : Type 0 where
   pub rows : IsRowsShown r eq (instance_trace g) g.air.constraints cap (row_count g) shown
   pub there : 0 < shown → HasEntries g
@@ -42,18 +42,18 @@ pub record CheckedRows {F : Type 0} (r : CommRing F) (eq : F → F → Bool) (g 
   pub places : map failure_place fs ≡ report_of r eq (instance_trace g) g.air.constraints shown
   pub counted : count ≡ constraints_counted g.air.constraints shown
 
--- the shapes of what the check is given fit
+-- the shapes of the instance fit
 abbrev pub Fits : {F : Type 0} → Instance F → Type 0
 Fits g = ShapesFit g.air.periodic (row_count g) (table_height g.air.preprocessed)
 
--- the differing cells that a cap lists after the first n rows
+-- the differing boundary values that a cap lists after the first n rows
 abbrev pub listed_cells : {F : Type 0} → CommRing F → (F → F → Bool) → Instance F → Option ℕ → ℕ → List (ℕ × BoundaryPublic)
 listed_cells r eq g cap n =
     take_within_cap cap (length (report_of r eq (instance_trace g) g.air.constraints n))
     (differing_cells r eq g.main g.public g.air.cells)
 
--- The report of a check under a cap: the nonzero pairs of the rows that the cap shows, and then the differing cells, as
--- many as the cap leaves. The shapes and the cells fit.
+-- The report of a check under a cap: the nonzero pairs of the rows that the cap shows, and then the differing boundary
+-- values, as many as the cap leaves. The shapes and the boundary values fit.
 pub record IsReport {F : Type 0} (r : CommRing F) (eq : F → F → Bool) (g : Instance F) (cap : Option ℕ) (report : ConstraintReport) : Type 0 where
   pub shapes : Fits g
   pub shown : ℕ
@@ -66,7 +66,7 @@ pub record IsReport {F : Type 0} (r : CommRing F) (eq : F → F → Bool) (g : I
   pub rows : report.total_rows ≡ row_count g
   pub count : report.total_constraints_per_row ≡ constraints_counted g.air.constraints shown
 
--- a row refuses for want of memory, a term that names a missing entry, or a count that passes `usize`
+-- the errors of a row: `Memory`, a missing entry that a term names, or a count past `usize`
 abbrev pub RowRefuses : {F : Type 0} → Instance F → AirError → Type 0
 RowRefuses g e = Refused (IsMissing (trace_shape (instance_trace g))) (λ _. ⊥) (IsFull 0) e g.air.constraints
 
@@ -74,11 +74,11 @@ RowRefuses g e = Refused (IsMissing (trace_shape (instance_trace g))) (λ _. ⊥
 abbrev pub RowRuns : Option ℕ → ℕ → Type 0
 RowRuns cap h = (0 < h) × (IsReached cap 0 → ⊥)
 
--- Rows refuse only where one runs; memory may be wanting all the same.
+-- The errors of the rows: those of a row, if one runs, and always `Memory`.
 abbrev pub RowsRefuse : {F : Type 0} → Option ℕ → Instance F → AirError → Type 0
 RowsRefuse cap g e = (e ≡ Memory) ⊎ (RowRuns cap (row_count g) × RowRefuses g e)
 
--- the rows ran, the cells fit, and a listed cell's place passes `usize`
+-- the rows ran, the boundary values fit, and a listed one's constraint index exceeds `usize`
 pub record IsCellPastCount {F : Type 0} (r : CommRing F) (eq : F → F → Bool) (g : Instance F) (cap : Option ℕ) : Type 0 where
   pub shown : ℕ
   pub ran : RowsRan r eq g cap shown
@@ -86,36 +86,38 @@ pub record IsCellPastCount {F : Type 0} (r : CommRing F) (eq : F → F → Bool)
   pub past : IsListedPast (constraints_counted g.air.constraints shown)
       (listed_cells r eq g cap shown)
 
--- the rows ran, and then the cells had this fault
+-- the rows ran, and then the boundary values had this fault
 abbrev pub RefusesCells : {F : Type 0} → CommRing F → (F → F → Bool) → Instance F → Option ℕ → AirError → Type 0
 RefusesCells r eq g cap e = (shown : ℕ) × RowsRan r eq g cap shown × IsCellFault g.main g.public g.air.cells e
 
--- A check of a whole trace refuses the first shape that doesn't fit; then what its rows refuse, where one runs; then the first cell that
--- doesn't fit; then a listed cell whose place passes `usize`. Want of memory comes after the shapes.
+-- The errors of a check of a whole trace, in order: the first shape that doesn't fit; the errors of the rows; the first
+-- boundary value that doesn't fit; a listed one whose constraint index exceeds `usize`. `Memory` occurs only after the
+-- shapes.
 abbrev pub CheckRefuses : {F : Type 0} → CommRing F → (F → F → Bool) → Instance F → Option ℕ → AirError → Type 0
 CheckRefuses r eq g cap e = IsShapeFault g.air.periodic (row_count g) (table_height g.air.preprocessed) e
     ⊎ (Fits g × (RowsRefuse cap g e ⊎ (RefusesCells r eq g cap e ⊎ ((e ≡ CountOverflow) × IsCellPastCount r eq g cap))))
 
--- each cell fits and holds its public value
+-- each boundary value fits and equals its public value
 pub record CellsAgree {F : Type 0} (r : CommRing F) (eq : F → F → Bool) (g : Instance F) : Type 0 where
   pub fit : CellsFit g.main g.public g.air.cells
   pub agree : AgreeBelow r eq g.main g.public g.air.cells (length g.air.cells)
 
--- The trace satisfies the constraints: no cell differs, and no pair of row and place is nonzero.
+-- The trace satisfies the constraints: no boundary value differs, and no pair of row and constraint index is nonzero.
 pub record IsSatisfied {F : Type 0} (r : CommRing F) (eq : F → F → Bool) (g : Instance F) : Type 0 where
   pub shapes : Fits g
   pub cells : CellsAgree r eq g
   pub none : report_of r eq (instance_trace g) g.air.constraints (row_count g) ≡ []
   pub there : 0 < row_count g → HasEntries g
 
--- The first differing cell, and its row.
+-- The first differing boundary value, and its row.
 pub record IsMismatch {F : Type 0} (r : CommRing F) (eq : F → F → Bool) (g : Instance F) (row index : ℕ) : Type 0 where
   pub shapes : Fits g
   pub cells : CellsFit g.main g.public g.air.cells
   pub first : IsFirstDiffering r eq g.main g.public g.air.cells index
   pub row_is : HoldsAt (λ cell. row ≡ row_of cell.end (row_count g)) g.air.cells index
 
--- No cell differs; this is the least row with a nonzero pair, and these are all of its pairs. The trace has the entries.
+-- No boundary value differs; this is the least row with a nonzero pair, and these are all of its pairs. The trace has the
+-- entries.
 pub record IsFailedRow {F : Type 0} (r : CommRing F) (eq : F → F → Bool) (g : Instance F) (row : ℕ) (fs : List ConstraintFailure) : Type 0 where
   pub shapes : Fits g
   pub cells : CellsAgree r eq g
@@ -125,12 +127,13 @@ pub record IsFailedRow {F : Type 0} (r : CommRing F) (eq : F → F → Bool) (g 
   pub some : fs ≢ []
   pub there : HasEntries g
 
--- The shapes are looked at first, then the cells are validated and compared, and then rows run.
+-- The errors, in order: a shape that doesn't fit; a boundary value that doesn't fit; once all boundary values fit and agree,
+-- the errors of the rows.
 abbrev pub FirstCheckRefuses : {F : Type 0} → CommRing F → (F → F → Bool) → Instance F → AirError → Type 0
 FirstCheckRefuses r eq g e = IsShapeFault g.air.periodic (row_count g) (table_height g.air.preprocessed) e
     ⊎ (Fits g × (IsCellFault g.main g.public g.air.cells e ⊎ (CellsAgree r eq g × RowsRefuse None g e)))
 
--- what a check up to the first fault answers where it isn't Ok
+-- the errors of a check up to the first fault
 abbrev pub IsFirstError : {F : Type 0} → CommRing F → (F → F → Bool) → Instance F → CheckError → Type 0
 IsFirstError r eq g (BoundaryMismatch row index) = IsMismatch r eq g row index
 IsFirstError r eq g (RowFailed row failures) = IsFailedRow r eq g row failures.items

@@ -1,4 +1,4 @@
--- What the debug builder does with an assertion that has no name.
+-- The debug builder's assertions without a name.
 use Rattle.std.specs.Prelude.{◌≡◌, List, [], ◌∷◌, Bool, Result, ⊤}
 use Rattle.air_field.specs.Ring.{CommRing, AlgebraOver}
 use Rattle.air_field.specs.Extension.{Basis}
@@ -21,12 +21,12 @@ MeansAtRow r a basis b x t =
     IsBase (with_leaves (row_reads_as r a basis (debug_row b)) t)
     × (closed_value r (with_leaves (row_reads_as r a basis (debug_row b)) t) ≡ x)
 
--- an element of the extension means a term there
+-- an element of the extension means a term at the builder's row
 abbrev pub ExtMeansAtRow : {F E : Type 0} → CommRing F → AlgebraOver F E → Basis F E
     → DebugConstraintBuilder F E → E → Term F → Type 0
 ExtMeansAtRow r a basis b x t = closed_value_in a (with_leaves (row_reads_as r a basis (debug_row b)) t) ≡ x
 
--- a call that asserts one element did what a call of any builder does
+-- a call that asserts one element does as on any builder, with the debug builder's growth and errors
 abbrev pub AssertedAtRow : {F E X : Type 0} → (RowData F E → Assertion F → Bool)
     → (DebugConstraintBuilder F E → X → Assertion F → Type 0)
     → DebugConstraintBuilder F E → DebugConstraintBuilder F E → X → Result ⊤ AirError
@@ -37,14 +37,14 @@ AssertedAtRow zero asserts a b x result =
     c.failures.items d.failures.items ts)
     (λ c e ts. RefusedAtRow zero (debug_row c) c.constraint_index e ts) a b (x ∷ []) result
 
--- it was counted, and where it failed its failure has no label
+-- the assertion was counted; if it failed, its failure has no label
 abbrev pub LogsNameless : {F E : Type 0} → Bool → DebugConstraintBuilder F E
     → DebugConstraintBuilder F E → Type 0
 LogsNameless holds a b =
     LogsOne a.row.index a.constraint_index b.constraint_index IsNameless holds a.failures.items
     b.failures.items
 
--- a builder grew by assertions that have labels
+-- the builder grew by labelled assertions
 abbrev pub GrewLabelled : {F E : Type 0} → (RowData F E → Assertion F → Bool)
     → DebugConstraintBuilder F E → DebugConstraintBuilder F E → List (Labelled F) → Type 0
 GrewLabelled zero a b ls =

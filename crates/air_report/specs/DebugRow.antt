@@ -1,4 +1,4 @@
--- The row that a debug builder stands at.
+-- The row of a debug builder.
 use Rattle.std.specs.Prelude.{◌≡◌, ◌==◌, ◌+◌, ℕ, not, List, Option, is_some, None, [], Vec}
 use Rattle.std.specs.Global.{Global}
 use Rattle.air_field.specs.Ring.{CommRing}
@@ -23,7 +23,7 @@ abbrev pub failures_of : {F E : Type 0} → DebugConstraintBuilder F E
     → Vec ConstraintFailure Global
 failures_of b = b.failures
 
--- how many assertions it has counted
+-- the number of assertions that it has counted
 abbrev pub count_of : {F E : Type 0} → DebugConstraintBuilder F E → ℕ
 count_of b = b.constraint_index
 
@@ -36,7 +36,7 @@ abbrev pub counted_from : {F E : Type 0} → DebugConstraintBuilder F E → ℕ
     → DebugConstraintBuilder F E
 counted_from b count = record b { constraint_index = count }
 
--- the selectors at row i of h: each is one where it holds, and zero elsewhere
+-- the selectors at row i of h: each is one on its rows, and zero elsewhere
 abbrev pub row_selectors : {F : Type 0} → CommRing F → ℕ → ℕ → Selectors F
 row_selectors r i h = record {
   is_first_row = selector r (i == 0);
@@ -44,7 +44,7 @@ row_selectors r i h = record {
   is_transition = selector r (not (i + 1 == h));
 }
 
--- A row of this index holds the pairs of rows, the public values and the selectors that it was made of.
+-- A row of this index holds the pairs of rows, the public values and the selectors from which it was made.
 pub record IsRow {F : Type 0} (i : ℕ) (main_rows table_rows : ViewPair F) (public : List F)
     (selected : Selectors F) (row : Row F) : Type 0 where
   pub index : row.index ≡ i
@@ -66,8 +66,8 @@ pub record StandsAt {F E : Type 0} (at : Row F) (periodic : Vec F Global)
   pub constraint_index : b.constraint_index ≡ 0
   pub failures : b.failures.items ≡ before
 
--- The builder is at the row of this index, and holds the pairs of rows, the values and the permutation data that it was given. It
--- has counted nothing, and has the failures of the rows before.
+-- The builder is at the row of this index, and holds the given pairs of rows, values and permutation data. It has counted
+-- nothing, and has the failures of the rows before.
 pub record IsAtRow {F E : Type 0} (row : ℕ) (main_rows table_rows : ViewPair F) (public : List F) (first last transition : F) (periodic : Vec F Global)
     (others : Option (ViewPair E)) (challenges exposed : List E) (before : List ConstraintFailure) (b : DebugConstraintBuilder F E) : Type 0 where
   pub row_index : b.row.index ≡ row

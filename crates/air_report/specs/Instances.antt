@@ -1,10 +1,10 @@
--- What is checked: an AIR on a trace.
+-- Instances: an AIR on a trace.
 use Rattle.std.specs.Prelude.{ℕ, List, [], length, map, Option, None, Some}
 use Rattle.air_field.specs.Grid.{Grid}
 use Rattle.air_field.specs.Assignment.{Trace}
 use Rattle.air_builder.specs.Declaration.{Declaration}
 
--- An instance: what an AIR declares, a main trace and public values.
+-- An instance: an AIR's declaration, a main trace and public values.
 pub record Instance (F : Type 0) : Type 0 where
   pub air : Declaration F
   pub main : Grid F
@@ -17,12 +17,12 @@ instance air trace values = record { air = air; main = trace; public = values }
 abbrev pub row_count : {F : Type 0} → Instance F → ℕ
 row_count x = length x.main.rows
 
--- the table's rows; without a table there are no columns and no rows
+-- the preprocessed trace; without one, no columns and no rows
 abbrev pub table_grid : {F : Type 0} → Option (Grid F) → Grid F
 table_grid None = record { width = 0; rows = [] }
 table_grid (Some table) = table
 
--- the main trace with what stands beside it
+-- the whole trace: main, preprocessed, periodic columns and public values
 abbrev pub instance_trace : {F : Type 0} → Instance F → Trace F
 instance_trace x = record {
   main_trace = x.main;

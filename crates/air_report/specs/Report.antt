@@ -1,4 +1,4 @@
--- The report on a whole trace: where the declared terms are not zero.
+-- The report on a whole trace: where the declared terms aren't zero.
 use Rattle.std.specs.Prelude.{◌≡◌, ℕ, ◌≤◌, ◌<◌, List, [], length, map, Bool, not, Option, None, Some, ◌⊎◌, ◌==◌, if◌then◌else◌}
 use Rattle.std.specs.List.{filter, flat_map, range_with_len, enumerate_from}
 use Rattle.air_field.specs.Ring.{CommRing, self_algebra}
@@ -9,13 +9,12 @@ use Rattle.air_field.specs.Grid.{Grid}
 use Rattle.air_builder.specs.Assertion.{Assertion, Base, Extension}
 use Rattle.air_report.specs.declared.debug.failure.ConstraintFailure.{ConstraintFailure}
 
--- the value of an assertion's term, the leaves having the values of s
+-- the value of an assertion's term, where s gives the values of the leaves
 abbrev pub assertion_value : {F : Type 0} → CommRing F → (Leaf → F) → Assertion F → F
 assertion_value r s (Base t) = value (self_algebra r) s t
 assertion_value r s (Extension t) = value (self_algebra r) s t
 
--- the first h rows, each with every place of the list and the assertion there: rows ascending, and in each row the
--- places ascending
+-- every assertion of the list with its index, at each of the first h rows: by row, and then by index
 abbrev pub all_places : {F : Type 0} → ℕ → List (Assertion F) → List (ℕ × (ℕ × Assertion F))
 all_places h ts = flat_map (λ r. map (λ p. (r, p)) (enumerate_from 0 ts)) (range_with_len 0 h)
 
@@ -23,15 +22,15 @@ all_places h ts = flat_map (λ r. map (λ p. (r, p)) (enumerate_from 0 ts)) (ran
 abbrev pub is_nonzero : {F : Type 0} → CommRing F → (F → F → Bool) → Trace F → ℕ × (ℕ × Assertion F) → Bool
 is_nonzero r eq trace p = not (eq (assertion_value r (row_assignment r trace p.0) p.1.1) r.zero)
 
--- the row, and the place in the list
+-- the row, and the index in the list
 abbrev pub place : {F : Type 0} → ℕ × (ℕ × Assertion F) → ℕ × ℕ
 place p = (p.0, p.1.0)
 
--- The report on the first h rows: all pairs of row and place, in order, whose term isn't zero there.
+-- The report on the first h rows: all pairs of row and constraint index, in order, where the term isn't zero.
 abbrev pub report_of : {F : Type 0} → CommRing F → (F → F → Bool) → Trace F → List (Assertion F) → ℕ → List (ℕ × ℕ)
 report_of r eq trace ts h = map place (filter (is_nonzero r eq trace) (all_places h ts))
 
--- where a failure stands
+-- a failure's row and constraint index
 abbrev pub failure_place : ConstraintFailure → ℕ × ℕ
 failure_place f = (f.row, f.constraint)
 
@@ -39,17 +38,17 @@ failure_place f = (f.row, f.constraint)
 abbrev pub plain_trace : {F : Type 0} → Grid F → List F → Trace F
 plain_trace g public = record { main_trace = g; preprocessed_trace = record { width = 0; rows = [] }; periodic_columns = []; public_values = public }
 
--- the cap is reached by so many failures
+-- n failures reach the cap
 abbrev pub IsReached : Option ℕ → ℕ → Type 0
 IsReached None n = ⊥
 IsReached (Some cap) n = cap ≤ n
 
--- m is the least number of the h rows whose report reaches the cap, or all of them where none does
+-- m is the least number of rows whose report reaches the cap, or h if there is none
 pub record IsRowsShown {F : Type 0} (r : CommRing F) (eq : F → F → Bool) (trace : Trace F) (ts : List (Assertion F)) (cap : Option ℕ) (h m : ℕ) : Type 0 where
   pub within : m ≤ h
   pub enough : (m ≡ h) ⊎ IsReached cap (length (report_of r eq trace ts m))
   pub least : (k : ℕ) → k < m → IsReached cap (length (report_of r eq trace ts k)) → ⊥
 
--- the number of constraints of row 0, none where no row ran
+-- the number of constraints of row 0; 0 if no row ran
 abbrev pub constraints_counted : {F : Type 0} → List (Assertion F) → ℕ → ℕ
 constraints_counted ts m = if m == 0 then 0 else length ts

@@ -1,4 +1,4 @@
--- Where a debug builder refuses at its row.
+-- The errors of a debug builder at its row.
 use Rattle.std.specs.Prelude.{◌≡◌, ◌⊎◌, ℕ, ◌+◌, ◌≤◌, ◌^◌, List, [], ◌∷◌, length, Bool, false}
 use Rattle.air_field.specs.Term.{Leaf}
 use Rattle.air_field.specs.Assignment.{IsMissing}
@@ -9,11 +9,11 @@ use Rattle.air_core.specs.declared.errors.AirError.{AirError}
 use Rattle.air_core.specs.declared.errors.AirError.TheVariants.{Memory}
 use Rattle.air_report.specs.Debug.{RowData}
 
--- what the row has not
+-- the row has no entry for the leaf
 abbrev pub RowMissing : {F E : Type 0} → RowData F E → Leaf → Type 0
 RowMissing d l = IsMissing (one_row_shape d.values d.permutation) l
 
--- the counter would pass `usize`
+-- the counter would exceed `usize`
 abbrev pub IsFull : {F : Type 0} → ℕ → List (Assertion F) → Type 0
 IsFull n ts = 2 ^ 64 ≤ n + length ts
 
@@ -22,7 +22,7 @@ abbrev pub SomeNonzero : {F : Type 0} → (Assertion F → Bool) → List (Asser
 SomeNonzero zero [] = ⊥
 SomeNonzero zero (t ∷ ts) = (zero t ≡ false) ⊎ SomeNonzero zero ts
 
--- A builder at the row refuses to grow as any does, and for want of memory only where some assertion isn't zero.
+-- A builder at the row refuses to grow as any builder does, with `Memory` only if some assertion isn't zero.
 pub record RefusedAtRow {F E : Type 0} (zero : RowData F E → Assertion F → Bool) (d : RowData F E) (n : ℕ) (e : AirError) (ts : List (Assertion F)) : Type 0 where
   pub refused : Refused (RowMissing d) (λ _. ⊥) (IsFull n) e ts
   pub memory : e ≡ Memory → SomeNonzero (zero d) ts

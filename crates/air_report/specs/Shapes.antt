@@ -1,4 +1,4 @@
--- Which preprocessed tables and periodic columns fit a trace.
+-- Which preprocessed traces and periodic columns fit a trace.
 use Rattle.std.specs.Prelude.{◌≡◌, ◌≢◌, ℕ, ◌%◌, ◌<◌, List, length, Option, Some, None, Result, Ok, Err, Vec, HoldsAt, ⊤}
 use Rattle.std.specs.Int.{IsPowerOfTwo}
 use Rattle.air_field.specs.Grid.{Grid}
@@ -6,7 +6,7 @@ use Rattle.air_core.specs.FirstOnes.{EachOfFirst}
 use Rattle.air_core.specs.declared.errors.AirError.{AirError}
 use Rattle.air_core.specs.declared.errors.AirError.TheVariants.{PreprocessedHeight, PeriodNotPowerOfTwo, PeriodDoesNotDivide}
 
--- the number of rows, if there is a table
+-- the number of rows of the preprocessed trace, if there is one
 abbrev pub table_height : {F : Type 0} → Option (Grid F) → Option ℕ
 table_height None = None
 table_height (Some table) = Some (length table.rows)
@@ -20,12 +20,12 @@ abbrev pub FitsHeight : Option ℕ → ℕ → Type 0
 FitsHeight None height = ⊤
 FitsHeight (Some preprocessed) height = preprocessed ≡ height
 
--- the table has the trace's height, and each period is a power of two that divides it
+-- the preprocessed trace has the trace's height, and each period is a power of two that divides it
 pub record ShapesFit {T A : Type 0} (columns : List (Vec T A)) (height : ℕ) (preprocessed : Option ℕ) : Type 0 where
   pub table_fits : FitsHeight preprocessed height
   pub periods_fit : PeriodsFitBelow columns height (length columns)
 
--- this error names the first shape that doesn't fit: the table's, then each column's
+-- the error names the first shape that doesn't fit: the preprocessed trace's, then each column's
 abbrev pub IsShapeFault : {T A : Type 0} → List (Vec T A) → ℕ → Option ℕ → AirError → Type 0
 IsShapeFault columns height preprocessed (PreprocessedHeight p m) = (preprocessed ≡ Some p) × (m ≡ height) × (p ≢ height)
 IsShapeFault columns height preprocessed (PeriodNotPowerOfTwo i n) = FitsHeight preprocessed height × (i < length columns)

@@ -1,4 +1,4 @@
--- Laws of what specs/ defines: implementations cite them, and the layers above build on them.
+-- Laws about the definitions in specs/: implementations cite them, and the layers above build on them.
 pub mod Debug
 pub mod DebugLabels
 pub mod DebugValues

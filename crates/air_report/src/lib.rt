@@ -1,5 +1,7 @@
 //! The check of a trace and its report: the debug builder, which evaluates an AIR on one concrete row, and the checks
-//! that run it on every row and compare the boundary cells.
+//! that run it on every row and compare the boundary values.
+//!
+//! Calls fail only with `Memory` unless they say otherwise.
 #![tactic(auto)]
 
 pub mod checks;

@@ -1,4 +1,4 @@
--- What holds of the one element of a list, or of both, holds of each.
+-- A fact that holds of the one element of a list, or of both its elements, holds of each.
 use Rattle.std.proofs.Common.{zero, suc, arith, All, [], ◌∷◌}
 
 module _ {A : Type 0} (P : A → Type 0) where

@@ -16,15 +16,15 @@ use crate::expressions::constants::One;
 use air_builder::{AirBuilder, View};
 use air_field::Algebra;
 
-/// What is claimed by one assertion: that an expression is zero.
+/// A claim of one assertion: that an expression is zero.
 pub trait Claim<AB: AirBuilder> {
-    /// What is claimed to be zero.
+    /// The term that is claimed to be zero.
     ghost claims: { Self → Term AB.F };
 
-    /// What it holds ready-made is of the builder, and means what it should there.
+    /// Every prebuilt expression inside was made by this builder and still has its value's term there.
     ghost usable: { Self → AB → Type 0 } = { λ _ _. ⊤ };
 
-    /// Makes what is zero if the claim holds where the condition does.
+    /// Makes the claimed term under the condition.
     fn make_claim<K: Condition<AB>>(&self, builder: &mut AB, condition: &K) -> AirResult<AB::Expr>
         requires ready { AB.ready builder.old }
         requires usable { AlwaysAfter AB.kept (λ b. usable self.now b × K.usable condition.now b)
@@ -33,7 +33,7 @@ pub trait Claim<AB: AirBuilder> {
             (K.under condition.now (claims self.now)) };
 }
 
-/// Asserts what is claimed.
+/// Asserts the claim under the condition.
 #[inline(always)]
 fn assert_claim<AB: AirBuilder, C: Claim<AB>, K: Condition<AB>>(
     builder: &mut AB,

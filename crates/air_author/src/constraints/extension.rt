@@ -19,15 +19,15 @@ use crate::expressions::constants::One;
 use air_builder::{ExtensionBuilder, NamedExtensionBuilder, View, ViewOver};
 use air_field::Algebra;
 
-/// What is claimed by one assertion over the extension: that an expression is zero.
+/// A claim of one assertion over the extension: that an expression is zero.
 pub trait ExtClaim<AB: ExtensionBuilder> {
-    /// What is claimed to be zero.
+    /// The term that is claimed to be zero.
     ghost ext_claims: { Self → Term AB.F };
 
-    /// What it holds ready-made is of the builder, and means what it should there.
+    /// Every prebuilt expression inside was made by this builder and still has its value's term there.
     ghost usable: { Self → AB → Type 0 } = { λ _ _. ⊤ };
 
-    /// Makes what is zero if the claim holds where the condition does.
+    /// Makes the claimed term under the condition.
     fn make_ext_claim<K: Condition<AB>>(
         &self,
         builder: &mut AB,
@@ -41,7 +41,7 @@ pub trait ExtClaim<AB: ExtensionBuilder> {
             (K.ext_under condition.now (ext_claims self.now)) };
 }
 
-/// Asserts what is claimed.
+/// Asserts the claim under the condition.
 #[inline(always)]
 fn assert_ext_claim<AB: ExtensionBuilder, C: ExtClaim<AB>, K: Condition<AB>>(
     builder: &mut AB,
@@ -181,7 +181,7 @@ impl<AB: ExtensionBuilder, X: ExtExpression<AB>> Constraint<AB> for ExtBoolean<X
     }
 }
 
-/// A constraint of one assertion over the extension, under a name.
+/// A constraint of one assertion over the extension, under a name. It is asserted with `assert_zero_ext_named`.
 #[derive(Clone, Copy, Drop)]
 pub struct ExtNamed<N, C>(pub N, pub C);
 

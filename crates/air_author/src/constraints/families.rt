@@ -1,4 +1,4 @@
-//! Constraints that a slice or an index numbers.
+//! Constraints numbered by a slice or an index.
 ghost use Rattle.std.specs.Prelude.{◌≡◌, ℕ, ◌<◌, ⊤, List};
 ghost use Rattle.std.specs.Prelude.{All as EachOf};
 ghost use Rattle.air_field.specs.Term.{Term};
@@ -30,23 +30,24 @@ impl<'a, AB: AirBuilder, C: Constraint<AB>> Constraint<AB> for Each<'a, C> {
     }
 }
 
-/// Constraints that an index numbers, as those of a column are by the column.
+/// Constraints numbered by an index, for example one for each column.
 pub trait Family<AB: AirBuilder> {
-    /// How many there are.
+    /// The number of members.
     ghost size: { Self → ℕ };
 
-    /// What the one at an index asserts, where each base term becomes another, and each extension term.
+    /// The assertions of the member at an index; the two functions put a base term and an extension term under the
+    /// surrounding conditions.
     ghost asserts_at: { Self → ℕ → (Term AB.F → Term AB.F) → (Term AB.F → Term AB.F) → List
         (Assertion AB.F) };
 
-    /// Every expression inside that was made before was made by this builder, and still means its value's term there.
+    /// Every prebuilt expression inside was made by this builder and still has its value's term there.
     ghost usable: { Self → AB → Type 0 } = { λ _ _. ⊤ };
 
-    /// How many there are.
+    /// The number of members.
     fn size(&self) -> usize
         ensures { result ≡ size self.now };
 
-    /// Asserts the one at the index where the condition holds.
+    /// Asserts the member at the index, under the condition.
     fn assert_at<K: Condition<AB>>(
         &self,
         index: usize,
@@ -61,7 +62,7 @@ pub trait Family<AB: AirBuilder> {
             (asserts_at self.now index (K.under condition.now) (K.ext_under condition.now)) };
 }
 
-/// Each of a family, in order.
+/// All members of a family, in order.
 #[derive(Clone, Copy, Drop)]
 pub struct All<C>(pub C);
 

@@ -29,8 +29,8 @@ impl<A: Label, B: Label> Label for Joined<A, B> {
     ghost always = { λ name. (A.always name.left, B.always name.right) };
 }
 
-/// A constraint of one assertion, under a name: `Named("a is b", Equal(Current(0), Current(1)))`. An assertion that
-/// fails keeps the name, and the name is evaluated where an assertion's is.
+/// A constraint of one assertion, under a name: `Named("a is b", Equal(Current(0), Current(1)))`. It is asserted with
+/// `assert_zero_named`.
 #[derive(Clone, Copy, Drop)]
 pub struct Named<N, C>(pub N, pub C);
 

@@ -1,4 +1,4 @@
-//! Constraints one after another.
+//! Tuples of constraints, in order.
 ghost use Rattle.std.specs.Prelude.{◌++◌};
 ghost use Rattle.air_builder.specs.Batches.{AssertedIn};
 ghost use Rattle.air_author.specs.Expressions.{AlwaysAfter};
@@ -8,8 +8,8 @@ use crate::conditions::Condition;
 use crate::constraints::Constraint;
 use air_builder::{AirBuilder, View};
 
-// Each length takes its first constraint and hands on the others one by one: as a tuple of references they would make a
-// type of all of theirs, which is dear to prove.
+// Each length asserts its first constraint and passes the others on one by one. A tuple of references would be a type
+// made of all of theirs, which takes long to prove.
 
 /// Asserts both, in order.
 #[inline(always)]

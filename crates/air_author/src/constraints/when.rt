@@ -1,4 +1,4 @@
-//! Constraints where a selector isn't zero.
+//! Constraints under a selector.
 ghost use Rattle.air_builder.specs.Notation.{◌⊙◌};
 
 use crate::AirResult;
@@ -7,8 +7,8 @@ use crate::constraints::Constraint;
 use crate::expressions::Expression;
 use air_builder::AirBuilder;
 
-/// The constraints where the selector isn't zero: each is multiplied by it, a base term from the left and an extension
-/// term from the right. One inside another multiplies first.
+/// The constraints under the selector: each is multiplied by it, a base term from the left and an extension term from
+/// the right. In nested `When`s the inner selector multiplies first.
 #[derive(Clone, Copy, Drop)]
 pub struct When<S, C>(pub S, pub C);
 

@@ -1,4 +1,4 @@
-//! Expressions that are made already.
+//! Prebuilt expressions.
 ghost use Rattle.air_author.specs.Expressions.{IsUsableIn};
 
 use crate::AirResult;
@@ -6,8 +6,8 @@ use crate::expressions::{Expression, ExtExpression};
 use air_builder::{AirBuilder, ExtensionBuilder, View, ViewOver};
 use air_field::Algebra;
 
-/// An expression that is made already, as one that a filter or a gadget was handed, and the value that it was made of:
-/// in the builder it has to mean the value's term, each leaf of which has to be there.
+/// A prebuilt expression, such as one that a filter or a gadget was given, and the value from which it was made. In the
+/// builder it must mean the value's term, and no leaf of the term may be missing.
 #[derive(Clone, Copy, Drop)]
 pub struct Already<E, X>(pub E, pub X);
 

@@ -25,7 +25,7 @@ fn make_both<AB: AirBuilder, X: Expression<AB>, Y: Expression<AB>>(
     Ok((first, second))
 }
 
-/// Makes x + y, of expressions that stand elsewhere.
+/// Makes x + y, by reference.
 #[inline(always)]
 pub fn make_sum<AB: AirBuilder, X: Expression<AB>, Y: Expression<AB>>(
     builder: &mut AB,
@@ -41,7 +41,7 @@ pub fn make_sum<AB: AirBuilder, X: Expression<AB>, Y: Expression<AB>>(
     to_air_result(builder.ring().add(x, y))
 }
 
-/// Makes x - y, of expressions that stand elsewhere.
+/// Makes x - y, by reference.
 #[inline(always)]
 pub fn make_difference<AB: AirBuilder, X: Expression<AB>, Y: Expression<AB>>(
     builder: &mut AB,
@@ -57,7 +57,7 @@ pub fn make_difference<AB: AirBuilder, X: Expression<AB>, Y: Expression<AB>>(
     to_air_result(builder.ring().sub(x, y))
 }
 
-/// Makes x y, of expressions that stand elsewhere.
+/// Makes x y, by reference.
 #[inline(always)]
 pub fn make_product<AB: AirBuilder, X: Expression<AB>, Y: Expression<AB>>(
     builder: &mut AB,
@@ -103,8 +103,7 @@ impl<AB: AirBuilder, X: Expression<AB>, Y: Expression<AB>> Expression<AB> for Di
     }
 }
 
-/// x - y, of expressions that stand elsewhere: of references as expressions of their own, as in `Difference<&X, &Y>`,
-/// each costs seconds of proof wherever it stands.
+/// `Difference` by reference. `Difference<&X, &Y>` would do, but each use takes seconds longer to prove.
 #[derive(Drop)]
 pub struct Less<'a, X, Y>(pub &'a X, pub &'a Y);
 
@@ -119,8 +118,8 @@ impl<'a, AB: AirBuilder, X: Expression<AB>, Y: Expression<AB>> Expression<AB> fo
     }
 }
 
-/// condition x, of expressions that stand elsewhere: the product, which a ring of values has for nothing where the
-/// condition is 0 or 1, as a selector mostly is.
+/// `condition * x`, by reference. A ring of values skips the multiplication when the condition is 0 or 1, as selectors
+/// usually are.
 #[derive(Drop)]
 pub struct Gated<'a, S, X>(pub &'a S, pub &'a X);
 
@@ -199,7 +198,7 @@ impl<AB: AirBuilder, X: Expression<AB>> Expression<AB> for Square<X> {
     }
 }
 
-/// x (x - 1), which is zero where x is zero or one
+/// x (x - 1), which in a field is zero exactly if x is zero or one
 #[derive(Clone, Copy, Drop)]
 pub struct BoolCheck<X>(pub X);
 

@@ -1,4 +1,4 @@
-//! Entries of the row: columns, periodic columns and public values. A missing one is refused by name.
+//! Entries of the row: columns, periodic columns and public values. A missing entry is refused by its name.
 ghost use Rattle.std.specs.Prelude.{◌≡◌, ◌↔◌, None, IfSome};
 ghost use Rattle.air_field.specs.Term.{leaf_term};
 ghost use Rattle.air_builder.specs.Notation.{current, next, periodic, preprocessed_current, preprocessed_next, public};
@@ -13,7 +13,7 @@ use air_builder::{AirBuilder, AirError, View};
 use air_core::BaseEntry;
 use air_field::{Algebra, FromVar};
 
-/// The expression of the variable that was found at a place of the entry.
+/// The expression of a variable that was looked up, or the error `missing` if there is none.
 #[inline(always)]
 fn make_found<AB: AirBuilder>(
     builder: &mut AB,

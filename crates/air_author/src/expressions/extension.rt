@@ -1,4 +1,4 @@
-//! Expressions over the extension. Operations are those on base expressions.
+//! Expressions over the extension, with the same operations as base expressions.
 ghost use Rattle.air_field.specs.Algebra.{double_term, bool_check_term};
 ghost use Rattle.air_builder.specs.Notation.{ext_constant, negative, ◌⊕◌, ◌⊖◌, ◌⊙◌};
 ghost use Rattle.air_author.specs.Expressions.{AlwaysAfter, MakesIn, MakesBothIn, power_term};
@@ -42,7 +42,7 @@ impl<AB: ExtensionBuilder, X: Expression<AB>> ExtExpression<AB> for Lifted<X> {
     }
 }
 
-/// A base expression that stands elsewhere, over the extension.
+/// `Lifted` by reference.
 #[derive(Drop)]
 pub(crate) struct LiftedAt<'a, X>(pub(crate) &'a X);
 
@@ -125,7 +125,7 @@ impl<AB: ExtensionBuilder, X: ExtExpression<AB>, Y: ExtExpression<AB>> ExtExpres
     }
 }
 
-/// x y, of expressions that stand elsewhere, as `Less` is of a difference.
+/// `Product` by reference, over the extension.
 #[derive(Drop)]
 pub(crate) struct Times<'a, X, Y>(pub(crate) &'a X, pub(crate) &'a Y);
 

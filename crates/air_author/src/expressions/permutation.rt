@@ -1,5 +1,5 @@
-//! Entries of the permutation trace, its challenges and its values. A missing one is refused by name, and each column
-//! of a builder without a permutation trace with `NoPermutation`.
+//! Entries of the permutation trace, its challenges and its exposed values. A missing entry is refused by its name; if
+//! the builder has no permutation trace, each of its columns is refused with `NoPermutation`.
 ghost use Rattle.std.specs.Prelude.{◌≤◌};
 ghost use Rattle.air_field.specs.Term.{permutation, leaf_term};
 ghost use Rattle.air_builder.specs.Notation.{challenge, permutation_current, permutation_next, permutation_value};
@@ -11,7 +11,7 @@ use air_builder::{AirError, PermutationAirBuilder, ViewOver};
 use air_core::ExtEntry;
 use air_field::{Algebra, FromVar};
 
-/// The expression of a column of the permutation trace, at offset 0 of the current row and at 1 of the next one.
+/// The expression of a column of the permutation trace: at offset 0 of the current row, at 1 of the next row.
 #[inline(always)]
 fn make_column<AB: PermutationAirBuilder>(
     builder: &mut AB,

@@ -9,7 +9,7 @@ use crate::expressions::{Expression, to_air_result};
 use air_builder::AirBuilder;
 use air_field::{Algebra, Field, RingError};
 
-/// x, times x so many times more, from the left
+/// x multiplied by x `more` times, from the left
 pub(crate) fn multiply_by_itself<F: Field, R: Algebra<F>>(
     ring: &mut R,
     x: R::Elem,
@@ -29,7 +29,7 @@ pub(crate) fn multiply_by_itself<F: Field, R: Algebra<F>>(
     Ok(total)
 }
 
-/// The product of so many of x, from the left; of none, one.
+/// The power of an expression: the product from the left; one for exponent 0.
 #[derive(Clone, Copy, Drop)]
 pub struct Power<X>(pub X, pub usize);
 

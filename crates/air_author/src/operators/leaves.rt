@@ -27,7 +27,7 @@ pub fn next(i: usize) -> E<Next>
     E(Next(i))
 }
 
-/// A column of the preprocessed table's current row.
+/// A column of the preprocessed trace's current row.
 #[inline(always)]
 pub fn preprocessed_current(i: usize) -> E<PreprocessedCurrent>
     ensures { result ≡ record { 0 = record { 0 = i } } }
@@ -35,7 +35,7 @@ pub fn preprocessed_current(i: usize) -> E<PreprocessedCurrent>
     E(PreprocessedCurrent(i))
 }
 
-/// A column of the preprocessed table's next row.
+/// A column of the preprocessed trace's next row.
 #[inline(always)]
 pub fn preprocessed_next(i: usize) -> E<PreprocessedNext>
     ensures { result ≡ record { 0 = record { 0 = i } } }

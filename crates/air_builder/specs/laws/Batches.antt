@@ -1,4 +1,4 @@
--- What follows of a call that asserts each of several elements.
+-- Consequences of a call that asserts each of several elements.
 use Rattle.std.specs.Prelude.{⊤}
 use Rattle.std.proofs.Common.{◌≡◌, ◌<◌, ◌≤◌, ℕ, zero, suc, ◌+◌, List, [], ◌∷◌, ◌++◌, length, take, drop, slice_index_or, Result, Ok, Err, inr, OnOk, OnErr, IfErr, ap, subst, sym, ◌∙◌, ap₂, append-nil, arith}
 use Rattle.std.proofs.lemmas.List.{take_more, take_all, drop_more, take-append-drop, take-append-le, length-append}
@@ -15,14 +15,14 @@ use Rattle.air_builder.specs.Builders.{MeansIn, BuilderView, RingLaws, BuilderLa
 use Rattle.air_builder.specs.laws.Filters.{means_kept}
 use Rattle.air_builder.specs.laws.Zips.{AllZip-parts, AllZip-nil}
 
--- what is said of one element, of the list of it alone
+-- a fact about one element, for the list of only that element
 module _ {S I F : Type 0} (asserts : S → I → Assertion F → Type 0) (a : S) (x : I) (fact : List (Assertion F) → Type 0) where
   of_one_element : ((s : Assertion F) → asserts a x s → fact (s ∷ [])) → OfEach asserts (x ∷ []) a fact
   of_one_element f [] h = absurd h
   of_one_element f (s ∷ []) h = f s h.0
   of_one_element f (s ∷ t ∷ ss) h = absurd h.1
 
-  -- a beginning of it that isn't the whole is nothing
+  -- the strict prefix of a list of one element is empty
   first_of_one : (n : ℕ) → n < 1 → OfEach asserts (take n (x ∷ [])) a fact → fact []
   first_of_one zero lt f = f [] tt
   first_of_one (suc n) lt f = absurd (omega (arith, lt))
@@ -46,7 +46,7 @@ module _ {S I F X : Type 0} {asserts : S → I → Assertion F → Type 0} {kept
     refused = of_one_element asserts a x (refuses a e) r;
   }
 
-  -- and what that says
+  -- conversely, the growth and the refusal of the one element
   pub grew_one : {u : ⊤} → AssertedEach asserts kept grew refuses a b (x ∷ []) (Ok u)
       → (s : Assertion F) → asserts a x s → grew a b (s ∷ [])
   grew_one h s k = h.ok (s ∷ []) (k, tt)
@@ -59,7 +59,7 @@ module _ {S I F X : Type 0} {asserts : S → I → Assertion F → Type 0} {kept
   refused_one h s k = h.refused (s ∷ []) (k, tt)
 
 module _ {S F : Type 0} (grew : S → S → List (Assertion F) → Type 0) (a b : S) (xs ys : List (Assertion F)) where
-  -- a beginning of the first of two lists
+  -- a strict prefix of the first of two lists
   pub first_of_two : OfBeginning xs (grew a b) → OfBeginning (xs ++ ys) (grew a b)
   first_of_two h =
       let e = length-append xs ys in
@@ -70,7 +70,7 @@ module _ {S F : Type 0} (grew : S → S → List (Assertion F) → Type 0) (a b 
         beginning = subst (grew a b) (sym (take-append-le h.count xs ys le)) h.beginning;
       }
 
-  -- the first of two lists whole, and a beginning of the other
+  -- all of the first list and a strict prefix of the second
   pub first_whole : (n : ℕ) → n < length ys → grew a b (xs ++ take n ys) → OfBeginning (xs ++ ys) (grew a b)
   first_whole n lt h =
       let e = length-append xs ys in record {
@@ -107,7 +107,7 @@ module _ {S R E F : Type 0} {view : BuilderView S R E F} (laws : BuilderLaws vie
   each_then : (a b c : S) (xs : List I) → OfEach asserts xs a (grew a b) → grew b c [] → OfEach asserts xs a (grew a c)
   each_then a b c xs g none ss h = subst (λ v. grew a c v) (append-nil ss) (laws.joined a b c ss [] (g ss h) none)
 
-  -- so some of the first elements stand
+  -- so only a strict prefix is asserted
   beginning : (a b c : S) (xs : List I) (i : ℕ) → i < length xs → OfEach asserts (take i xs) a (grew a b)
       → grew b c [] → OfFirst asserts xs a (grew a c)
   beginning a b c xs i lt g none = record { count = i; within = lt; beginning = each_then a b c (take i xs) g none }
@@ -146,7 +146,7 @@ module _ {S R E F : Type 0} {view : BuilderView S R E F} (laws : BuilderLaws vie
       refused = tt;
     }
 
-    -- one element was refused, and a `?` gives up
+    -- one element was refused, and a `?` returns the refusal
     pub asserted_refused : {u : ⊤} {e : AirError} {result : Result ⊤ AirError} (x : I) → i < length xs
         → x ≡ slice_index_or xs i x → AssertedEach asserts kept grew refuses a b (take i xs) (Ok u)
         → AssertedEach asserts kept grew refuses b c (x ∷ []) (Err e) → IsErrAnd result (λ y. y ≡ e)
@@ -171,7 +171,7 @@ module _ {S R E F : Type 0} {view : BuilderView S R E F} (laws : BuilderLaws vie
     refused = tt;
   }
 
--- the pair at a place of two lists
+-- the pair at an index of two zipped lists
 pub get_pair : {A B : Type 0} (xs : List A) (ys : List B) (i : ℕ) (x : A) (y : B) → i < length xs → i < length ys
     → x ≡ slice_index_or xs i x → y ≡ slice_index_or ys i y → (x, y) ≡ slice_index_or (zip xs ys) i (x, y)
 get_pair xs ys i x y p q e f = ap₂ (λ v w. (v, w)) e f ∙ sym (get_or-zip xs ys i (x, y) p q)
@@ -189,7 +189,7 @@ module _ {S R E F : Type 0} {view : BuilderView S R E F} (ring : RingLaws view) 
       → AssertsOfBoth kind (MeansIn view) op a p s → AssertsOfBoth kind (MeansIn view) op b p s
   both_kept kind op a b k p s h = (h.0, h.1, means_kept ring laws a b p.0 h.0 k h.2, means_kept ring laws a b p.1 h.1 k h.3, h.4)
 
--- a call that asserts a list may be all of an evaluation
+-- a call that asserts a list may be a whole evaluation
 pub evaluates : {S F : Type 0} {kept : S → S → Type 0} {grew : S → S → List (Assertion F) → Type 0} {missing : S → Leaf → Type 0}
     {refuses : S → AirError → List (Assertion F) → Type 0} {a b : S} {ts : List (Assertion F)} (r : Result ⊤ AirError)
     → AssertedList kept grew missing refuses a b r ts → AssertedList kept grew missing (OrMemory refuses) a b r ts

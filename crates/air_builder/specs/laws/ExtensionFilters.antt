@@ -1,4 +1,4 @@
--- What a builder over an extension keeps under a filter.
+-- The laws of an extension builder under a filter.
 use Rattle.std.specs.Prelude.{◌≡◌, [], map}
 use Rattle.std.proofs.Common.{sym, ◌∙◌, ap, subst}
 use Rattle.air_builder.specs.Assertion.{filter_by}

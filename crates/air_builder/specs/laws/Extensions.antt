@@ -1,10 +1,10 @@
--- A builder keeps for its ring over the extension what it keeps for its base ring.
+-- The laws of a builder, for its ring over the extension.
 use Rattle.air_builder.specs.Builders.{BuilderView, BuilderLaws}
 use Rattle.air_builder.specs.Extensions.{ExtensionView, over_view, ExtensionRingLaws}
 
 module _ {S R X B E F : Type 0} {view : BuilderView S R B F} {over : ExtensionView S X B E F}
     (laws : BuilderLaws view) (extension : ExtensionRingLaws view over) where
-  -- the builder keeps for its ring over the extension what it keeps for its base ring
+  -- the laws of builders hold with the ring over the extension in place of the base ring
   pub over_extension : BuilderLaws (over_view view over)
   over_extension = record {
     same = laws.same;

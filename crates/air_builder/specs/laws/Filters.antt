@@ -1,4 +1,4 @@
--- What a filter keeps of the builder inside.
+-- The laws that a filter keeps of the builder inside.
 use Rattle.std.specs.Prelude.{◌≡◌, List, [], ◌++◌, map, refl}
 use Rattle.std.proofs.Common.{sym, ◌∙◌, ap, subst}
 use Rattle.std.proofs.lemmas.List.{map-append}
@@ -12,17 +12,17 @@ use Rattle.air_builder.specs.Filters.{GrewUnder, GrewInside, RefusesInside, filt
 module _ {S R E F : Type 0} {view : BuilderView S R E F} (ring : RingLaws view) (laws : BuilderLaws view) where
   open view use {has, means, extends, ring_of, with_ring, reads_as, kept, grew, refuses}
 
-  -- what meant a term before still means it
+  -- an element still means its term
   pub means_kept : (a b : S) (x : E) (t : Term F) → kept a b → MeansIn view a x t → MeansIn view b x t
   means_kept a b x t k m =
       subst (λ s. means (ring_of b) x (with_leaves s t)) (sym (laws.reads_as_kept a b k))
       (ring.means_stays (ring_of a) (ring_of b) x (with_leaves (reads_as a) t) (laws.ring_kept a b k) m)
 
-  -- what was in the ring is in it still
+  -- an element of the ring is still in it
   pub has_kept : (a b : S) (x : E) → kept a b → has (ring_of a) x → has (ring_of b) x
   has_kept a b x k h = ring.has_stays (ring_of a) (ring_of b) x (laws.ring_kept a b k) h
 
-  -- what the lent ring gave means its term afterwards
+  -- an element that the lent ring made means its term afterwards
   pub means_lent : (a : S) (r : R) (x : E) (t : Term F) → extends (ring_of a) r
       → means r x (with_leaves (reads_as a) t) → MeansIn view (with_ring a r) x t
   means_lent a r x t e m =
@@ -30,12 +30,12 @@ module _ {S R E F : Type 0} {view : BuilderView S R E F} (ring : RingLaws view) 
       (sym (laws.reads_as_kept a (with_ring a r) (laws.by_growth a (with_ring a r) [] (laws.ring_lent a r e))))
       (subst (λ q. means q x (with_leaves (reads_as a) t)) (sym (laws.ring_with a r)) m)
 
-  -- what a filter may refuse its builder may
+  -- an error that the filter may give, the builder inside may give under the condition
   pub refused_filter : (x : E) (a i : S) (e : AirError) (us ts : List (Assertion F)) (t : Term F) → grew a i us
       → MeansIn view i x t → RefusesInside view x i e ts → refuses a e (us ++ map (filter_by t) ts)
   refused_filter x a i e us ts t u p h = laws.refuses_then a i e us (map (filter_by t) ts) u (h t p)
 
-  -- of a list of any kind, assertions or labelled ones
+  -- for a list of any kind, assertions or labelled ones
   module _ {A N : Type 0} (under : Term F → A → A) {grown : S → S → List A → Type 0}
       (joined : (a b c : S) (xs ys : List A) → grown a b xs → grown b c ys → grown a c (xs ++ ys)) where
     -- growth in a filter by one list and then by another
@@ -54,13 +54,13 @@ module _ {S R E F : Type 0} {view : BuilderView S R E F} (ring : RingLaws view) 
     }
 
   module _ {N : Type 0} where
-    -- the same of assertions
+    -- the join of growth, for assertions
     pub inside_joined : (n m k : N) (x y z : E) (a b c : S) (xs ys : List (Assertion F))
         → GrewInside view n m x y a b xs → GrewInside view m k y z b c ys
         → GrewInside view n k x z a c (xs ++ ys)
     inside_joined = under_joined filter_by laws.joined
 
-    -- what a filter may refuse after growth it may refuse before
+    -- an error that the filter may give after growth, it may give before
     pub inside_refused : (n m : N) (x y : E) (a b : S) (e : AirError) (xs ys : List (Assertion F))
         → GrewInside view n m x y a b xs → RefusesInside view y b e ys
         → RefusesInside view x a e (xs ++ ys)

@@ -14,7 +14,7 @@ use Rattle.air_builder.specs.laws.Batches.{asserted_one, grew_one, grew_none, re
 use Rattle.air_core.specs.Errors.{air_error}
 use Rattle.air_builder.specs.laws.Filters.{means_lent}
 
--- what an element means in the builder's ring it means in the ring as it is lent
+-- an element of the builder's ring means the same term in the lent ring
 pub means_in : {R E F : Type 0} (means : R → E → Term F → Type 0) {q r : R} (x : E) (t : Term F) → q ≡ r → means r x t → means q x t
 means_in means x t e m = subst (λ r. means r x t) (sym e) m
 
@@ -42,7 +42,7 @@ module _ {S R E F : Type 0} {view : BuilderView S R E F} (ring : RingLaws view) 
   lent_means a q r x t p e m = means_lent ring laws a r x t (subst (λ s. extends s r) p e) m
 
   module _ (kind : Term F → Assertion F) {a : S} {q r : R} (p : q ≡ ring_of a) (e : extends q r) where
-    -- what an element asserts, the one that the lent ring made of it asserts as it is
+    -- an assertion of an operation on x is an assertion of the element z that the lent ring made
     pub made_of : (op : Term F → Term F) {x z : E} → ((t : Term F) → op (with_leaves (reads_as a) t) ≡ with_leaves (reads_as a) (op t))
         → ((t : Term F) → means q x t → means r z (op t))
         → (s : Assertion F) → AssertsOf kind (MeansIn view) op a x s
@@ -52,7 +52,7 @@ module _ {S R E F : Type 0} {view : BuilderView S R E F} (ring : RingLaws view) 
         let made = subst (λ v. means r z v) (through h.0) (m below (means_in means x below p h.1)) in
         (op h.0, lent_means a q r z (op h.0) p e made, h.2)
 
-    -- the same, of two
+    -- an assertion of an operation on x and y is an assertion of the element z that the lent ring made
     pub made_of_both : (op : Term F → Term F → Term F) {x y z : E}
         → ((t u : Term F) → op (with_leaves (reads_as a) t) (with_leaves (reads_as a) u) ≡ with_leaves (reads_as a) (op t u))
         → ((t u : Term F) → means q x t → means q y u → means r z (op t u))
@@ -94,7 +94,7 @@ module _ {S R E F : Type 0} {view : BuilderView S R E F} (laws : BuilderLaws vie
   open view use {extends, ring_of, with_ring, kept, grew, refuses}
 
   module _ {I : Type 0} {asserts : S → I → Assertion F → Type 0} {a : S} {q r : R} {x : I} (p : q ≡ ring_of a) (e : extends q r) where
-    -- The lent ring made z of x, which asserts what x does, and then z was asserted: so was x.
+    -- The lent ring made z from x, z asserts what x asserts, and z was asserted: so was x.
     pub lent_asserted : {J : Type 0} {made : S → J → Assertion F → Type 0} {b : S} {z : J} (result : Result ⊤ AirError)
         → ((s : Assertion F) → asserts a x s → made (with_ring a r) z s)
         → AssertedEach made kept grew refuses (with_ring a r) b (z ∷ []) result
@@ -113,8 +113,8 @@ module _ {S R E F : Type 0} {view : BuilderView S R E F} (laws : BuilderLaws vie
         let none = lent laws a q r p e in
         asserted_one (Err f) (laws.by_growth a (with_ring a r) [] none) tt none h
 
--- An operation of the lent ring made an element of one, or of two, and that was asserted; or a `?` gives up with the
--- ring's refusal.
+-- An operation of the lent ring made an element from one or two others, and that was asserted; or a `?` returns the ring's
+-- refusal.
 module _ {S R E F : Type 0} {view : BuilderView S R E F} (ring : RingLaws view) (laws : BuilderLaws view)
     (kind : Term F → Assertion F) {a : S} {q r : R} (p : q ≡ view.ring_of a) (e : view.extends q r) where
   open view use {means, ring_refuses, with_ring, reads_as, kept, grew, refuses}

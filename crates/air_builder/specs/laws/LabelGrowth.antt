@@ -25,7 +25,7 @@ IsSaid-weaker : {says others : Option (List ℕ) → Type 0} → ((text : Option
 IsSaid-weaker w Unasked h = tt
 IsSaid-weaker w (Shown text) h = w text h
 
--- a builder that discards labels asks for none
+-- a builder that discards labels asks for no label
 pub no_label_asked : {S I F : Type 0} {asserts : S → I → Assertion F → Type 0} {kept : S → S → Type 0}
     {grew : S → S → List (Assertion F) → Type 0} {refuses : S → AirError → List (Assertion F) → Type 0}
     {says : Option (List ℕ) → Type 0} {a b : S} {x : I} (result : Result ⊤ AirError)
@@ -94,7 +94,7 @@ module _ {S R E F : Type 0} {view : BuilderView S R E F} {labelled : S → S →
               (named.labelled_joined a b c (zip parts.0 g.labels) ((parts.1, l) ∷ []) (g.grown parts.0 parts.4) (one parts.1 (asserts_kept a b k x parts.1 parts.5)));
         }
 
-    -- a refused element leaves the builder as it was, so some of the first elements stand
+    -- a refused element leaves the builder as it was, so only a strict prefix is asserted
     label_beginning : (a b c : S) (xs : List I) (i : ℕ) → i < length xs
         → LabelledByEach asserts labelled says a b (take i xs) → labelled b c []
         → LabelledByBeginning asserts labelled says a c xs
@@ -124,7 +124,7 @@ module _ {S R E F : Type 0} {view : BuilderView S R E F} {labelled : S → S →
           let one = one_label l in
           record { ok = label_more a b c xs i x one.label lt is k h.ok (IsSaid-weaker w one.label one.said) one.grown; err = tt }
 
-      -- one element was refused, and a `?` gives up
+      -- one element was refused, and a `?` returns the refusal
       pub labelled_refused : {u : ⊤} {e : AirError} {result : Result ⊤ AirError} {x : I}
           {others : ℕ → Option (List ℕ) → Type 0} → i < length xs
           → LabelledEach asserts labelled says a b (take i xs) (Ok u)
@@ -157,7 +157,7 @@ module _ {S R E F : Type 0} {view : BuilderView S R E F} {labelled : S → S →
     making_unlabelled : (f : AirError) → LabelledEach asserts labelled (λ i. says) a (with_ring a r) (x ∷ []) (Err f)
     making_unlabelled f = labelled_one (Err f) tt (named.labelled_nothing a (with_ring a r) (lent laws a q r p e))
 
-    -- The lent ring made z of x, which asserts what x does, and then z was asserted under a label: so was x.
+    -- The lent ring made z from x, z asserts what x asserts, and z was asserted under a label: so was x.
     pub lent_named : {J : Type 0} {made : S → J → Assertion F → Type 0} {b : S} {z : J} (result : Result ⊤ AirError)
         → ((s : Assertion F) → asserts a x s → made (with_ring a r) z s)
         → AssertedEach made kept grew refuses (with_ring a r) b (z ∷ []) result
@@ -170,8 +170,8 @@ module _ {S R E F : Type 0} {view : BuilderView S R E F} {labelled : S → S →
         → NamedOne asserts kept grew refuses labelled says a (with_ring a r) x (Err f)
     making_unnamed f h = record { asserted = making_refused laws p e f h; label = making_unlabelled f }
 
--- An operation of the lent ring made an element of one, or of two, and that was asserted under a label; or a `?` gives up
--- with the ring's refusal.
+-- An operation of the lent ring made an element from one or two others, and that was asserted under a label; or a `?`
+-- returns the ring's refusal.
 module _ {S R E F : Type 0} {view : BuilderView S R E F} {labelled : S → S → List (Labelled F) → Type 0}
     (ring : RingLaws view) (laws : BuilderLaws view) (named : NamedLaws view.grew labelled) (kind : Term F → Assertion F)
     {says : Option (List ℕ) → Type 0} {a : S} {q r : R} (p : q ≡ view.ring_of a) (e : view.extends q r) where

@@ -68,7 +68,7 @@ module _ {S I F : Type 0} {asserts : S → I → Assertion F → Type 0} {labell
     };
   }
 
-  -- and what that says
+  -- conversely, the label of the one element
   pub one_label : {says : Option (List ℕ) → Type 0} {u : ⊤}
       → LabelledEach asserts labelled (λ i. says) a b (x ∷ []) (Ok u) → OneLabel asserts labelled says a b x
   one_label {says} h = only_label asserts labelled a b x says h.ok.labels h.ok.as_many h.ok.said h.ok.grown

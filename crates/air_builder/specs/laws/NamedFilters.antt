@@ -1,4 +1,4 @@
--- What a named builder keeps that discards labels, and one under a filter.
+-- The laws of a named builder that discards labels, and of a named builder under a filter.
 use Rattle.std.specs.Prelude.{◌≡◌, List, [], ◌∷◌, map, refl}
 use Rattle.std.proofs.Common.{sym, ap, subst}
 use Rattle.air_field.specs.Term.{Term}

@@ -1,4 +1,4 @@
--- A part of a part of what is asserted is a part of it.
+-- A part of a part of an assertion is a part of it.
 use Rattle.std.specs.Prelude.{List, [], ◌∷◌}
 use Rattle.std.proofs.Common.{inl, inr}
 use Rattle.air_field.specs.Term.{Term}

@@ -1,4 +1,4 @@
--- Where no leaf is missing no term names one, and a filter keeps the parts of what is asserted.
+-- Where no leaf is missing, no term names one; and a filter keeps the parts of assertions.
 use Rattle.std.specs.Prelude.{◌≡◌, ℕ, List, [], ◌∷◌, map}
 use Rattle.std.proofs.Common.{inl, inr, refl, sym, subst, zero, suc, arith}
 use Rattle.air_field.specs.Term.{Leaf, Term, leaf_term}
@@ -34,7 +34,7 @@ PartOf-filtered c t [] p = p
 PartOf-filtered c t (a ∷ rest) (inl p) = inl (part_filtered c t a p)
 PartOf-filtered c t (a ∷ rest) (inr p) = inr (PartOf-filtered c t rest p)
 
--- a column of a row past the window has no entry, whatever the counts
+-- a column of a row past the window has no entry in any shape
 pub past_window_missing : (s : Shape) (o : ℕ) (l : Leaf) → IsPastWindow o l → IsMissing s l
 past_window_missing s (suc (suc o)) l (lt, i, inl e) = subst (λ k. IsMissing s k) (sym e) tt
 past_window_missing s (suc (suc o)) l (lt, i, inr e) = subst (λ k. IsMissing s k) (sym e) tt

@@ -1,4 +1,4 @@
--- What a builder refuses of a part it refuses of the whole.
+-- A refusal of a part is a refusal of the whole.
 use Rattle.std.specs.Prelude.{◌≡◌, List, [], ◌∷◌, ◌++◌, refl}
 use Rattle.std.proofs.Common.{inl, inr, subst}
 use Rattle.air_field.specs.Term.{Leaf, permutation, Term, leaf_term}

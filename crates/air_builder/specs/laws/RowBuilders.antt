@@ -12,8 +12,8 @@ use Rattle.air_builder.specs.laws.Refusals.{past_window_missing}
 
 module _ {S D F : Type 0} (row : S → D) (shape : D → Shape) (reads_as : D → Leaf → Term F)
     (grew : S → S → List (Assertion F) → Type 0) (refuses : S → AirError → List (Assertion F) → Type 0) where
-  -- the builder as its laws see it: the row stays, an entry that its shape hasn't is missing, and the ring keeps and
-  -- refuses nothing
+  -- the builder's view: the row never changes, an entry outside the row's shape is missing, and the ring accepts every
+  -- element and refuses nothing
   abbrev pub row_view : {R V : Type 0} → (S → R) → (S → R → S) → (V → Term F → Type 0) → BuilderView S R V F
   row_view ring_of with_ring means = record {
     valid = λ _. ⊤;
@@ -31,7 +31,7 @@ module _ {S D F : Type 0} (row : S → D) (shape : D → Shape) (reads_as : D �
     refuses = refuses;
   }
 
-  -- and its ring over the extension
+  -- the view of its ring over the extension
   abbrev pub row_over : {R V W : Type 0} → (S → R) → (S → R → S) → (V → Term F → Type 0) → (W → Term F → Type 0) → ExtensionView S R V W F
   row_over {R = R} {V = V} ring_of with_ring base_means means =
       let view = row_view ring_of with_ring means in
@@ -47,7 +47,7 @@ module _ {S D F : Type 0} (row : S → D) (shape : D → Shape) (reads_as : D �
         with_ring = with_ring;
       }
 
-  -- what such a builder has to keep by itself
+  -- the laws that such a builder must prove itself
   pub record GrowsAtRow : Type 0 where
     pub same : (a : S) → grew a a []
     pub joined : (a b c : S) (xs ys : List (Assertion F)) → grew a b xs → grew b c ys → grew a c (xs ++ ys)
@@ -83,7 +83,7 @@ module _ {S D F : Type 0} (row : S → D) (shape : D → Shape) (reads_as : D �
       refuses_missing = grows.refuses_missing;
     }
 
-    -- and those of builders over an extension, for its ring over the extension
+    -- the laws of builders over an extension, for its ring over the extension
     pub row_extension_laws : {B U : Type 0} (base_of : S → B) (base_means : U → Term F → Type 0) {with_base : S → B → S}
         → ExtensionRingLaws (row_view base_of with_base base_means) (row_over ring_of with_ring base_means means)
     row_extension_laws base_of base_means = record {

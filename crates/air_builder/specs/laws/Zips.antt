@@ -1,9 +1,9 @@
--- Two lists whose elements are related place by place.
+-- Two lists whose elements are related index by index.
 use Rattle.std.specs.Prelude.{◌≡◌, ℕ, zero, suc, List, [], ◌∷◌, ◌++◌, take, drop, refl}
 use Rattle.std.specs.List.{AllZip}
 use Rattle.std.proofs.Common.{ap}
 
--- the second list in two parts, as the first one is
+-- the second list is split as the first one is
 pub AllZip-parts : {A B : Type 0} (R : A → B → Type 0) (xs : List A) (x : A) (rest : List A) (ys : List B)
     → AllZip R (xs ++ (x ∷ rest)) ys
     → (before : List B) × (y : B) × (after : List B) × (ys ≡ before ++ (y ∷ after)) × AllZip R xs before × R x y
@@ -15,12 +15,12 @@ AllZip-parts R (z ∷ xs) x rest (y ∷ ys) h =
     let more = AllZip-parts R xs x rest ys h.1 in
     (y ∷ more.0, more.1, more.2, ap (λ v. y ∷ v) more.3, (h.0, more.4), more.5, more.6)
 
--- nothing stands beside no element
+-- only the empty list is zipped with the empty list
 pub AllZip-nil : {A B : Type 0} (R : A → B → Type 0) (ys : List B) → AllZip R [] ys → ys ≡ []
 AllZip-nil R [] h = refl
 AllZip-nil R (y ∷ ys) h = absurd h
 
--- the relation may give way to a weaker one
+-- the relation may be weakened
 pub AllZip-weaker : {A B : Type 0} (R S : A → B → Type 0) → ((x : A) (y : B) → R x y → S x y)
     → (xs : List A) (ys : List B) → AllZip R xs ys → AllZip S xs ys
 AllZip-weaker R S w [] [] h = tt
@@ -28,7 +28,7 @@ AllZip-weaker R S w [] (y ∷ ys) h = absurd h
 AllZip-weaker R S w (x ∷ xs) [] h = absurd h
 AllZip-weaker R S w (x ∷ xs) (y ∷ ys) h = (w x y h.0, AllZip-weaker R S w xs ys h.1)
 
--- two relations of lists, one after the other
+-- two zipped lists, appended to two others
 pub AllZip-joined : {A B : Type 0} (R : A → B → Type 0) (xs us : List A) (ys vs : List B) → AllZip R xs ys
     → AllZip R us vs → AllZip R (xs ++ us) (ys ++ vs)
 AllZip-joined R [] us [] vs h k = k

@@ -15,27 +15,27 @@ use air_core::periodic::{periodic_matrix, periodic_row};
 use air_field::RowMajorMatrix;
 use std::alloc::Global;
 
-/// What an AIR says of itself. Every answer is a function of the AIR's value, want of memory apart; of a list or hint
-/// of its own only what an implementation states at its method.
+/// What an AIR declares. Apart from `Memory`, each answer depends only on the AIR's value. The default lists and hints
+/// are guaranteed only where the AIR doesn't override them.
 pub trait BaseAir<F: Copy> {
-    /// Its constraints, in order: base or extension terms, the same for all builders; the numbers of columns and of
-    /// public values; and the preprocessed table, the periodic columns and the boundary cells.
+    /// Its constraints, in order: base or extension terms, the same for all builders; the number of columns and of
+    /// public values; the preprocessed trace, the periodic columns and the boundary values.
     ghost declaration: { Self → Declaration F };
 
-    /// An implementation with a body of its own for the list of next-row columns says so, and states its answer at the
-    /// method; so for each of the following four. What it leaves alone keeps its promise.
+    /// Set this to ⊤ when you override `main_next_row_columns`, and give the override its own contract. The next four
+    /// work alike. A method that isn't overridden keeps its promise.
     ghost has_own_next_row_columns: { Self → Type 0 } = { λ _. ⊥ };
 
-    /// The same for the list of the preprocessed table.
+    /// As above, for `preprocessed_next_row_columns`.
     ghost has_own_preprocessed_columns: { Self → Type 0 } = { λ _. ⊥ };
 
-    /// The same for the number of constraints.
+    /// As above, for `num_constraints`.
     ghost has_own_constraint_count: { Self → Type 0 } = { λ _. ⊥ };
 
-    /// The same for the bound on the constraints' degree.
+    /// As above, for `max_constraint_degree`.
     ghost has_own_degree_bound: { Self → Type 0 } = { λ _. ⊥ };
 
-    /// The same for whether a boolean trace is assumed.
+    /// As above, for `assumes_boolean_trace`.
     ghost has_own_boolean_trace: { Self → Type 0 } = { λ _. ⊥ };
 
     /// The number of columns of the main trace.
@@ -46,11 +46,11 @@ pub trait BaseAir<F: Copy> {
     fn num_public_values(&self) -> usize
         ensures { result ≡ (declaration self.now).num_public_values };
 
-    /// The preprocessed table, if there is one. A check compares its height with that of the main trace.
+    /// The preprocessed trace, if there is one. A check compares its height with that of the main trace.
     fn preprocessed_trace(&self) -> Option<&RowMajorMatrix<F>>
         ensures { option_copied result ≡ (declaration self.now).preprocessed };
 
-    /// The number of columns of the preprocessed table, 0 without one.
+    /// The number of columns of the preprocessed trace, 0 without one.
     fn preprocessed_width(&self) -> usize
         ensures { result ≡ table_width (declaration self.now).preprocessed }
     {
@@ -71,30 +71,29 @@ pub trait BaseAir<F: Copy> {
         self.periodic_columns().len()
     }
 
-    /// Each periodic column's value at the row: the column at the row modulo its length. The first empty column is
-    /// refused, and want of memory.
+    /// Each periodic column's value at the row: the column at the row modulo its length. `EmptyPeriodicColumn` names
+    /// the first empty column.
     fn periodic_values(&self, alloc: Global, row_index: usize) -> Result<Vec<F>, AirError>
         ensures { MatchPeriodicValues (declaration self.now).periodic row_index result }
     {
         periodic_row(alloc, self.periodic_columns(), row_index)
     }
 
-    /// The periodic columns as a matrix that has as many rows as the greatest period; None without columns. The first
-    /// empty column is refused where another isn't empty, and want of memory.
+    /// The periodic columns as a matrix with as many rows as the greatest period; None without columns.
+    /// `EmptyPeriodicColumn` names the first empty column, where another column isn't empty.
     fn periodic_columns_matrix(&self, alloc: Global) -> Result<Option<RowMajorMatrix<F>>, AirError>
         ensures { MatchPeriodicMatrix (declaration self.now).periodic result }
     {
         periodic_matrix(alloc, self.periodic_columns())
     }
 
-    /// The columns of the main trace whose next row the constraints read: all of them, where the AIR has no list of its
-    /// own. It refuses for want of memory alone.
+    /// The columns of the main trace whose next row the constraints read; by default all of them.
     ///
     /// # Correctness
     ///
-    /// A prover opens the next row of these columns alone. A column that a constraint reads there and that a list of
-    /// the AIR's own leaves out makes proofs fail, or is bound by nothing: proofs may then be accepted of traces that
-    /// break the constraint. No check here compares the list with the constraints.
+    /// A prover opens the next row of only these columns. If an override leaves out a column that a constraint reads
+    /// there, proofs fail, or nothing binds that column's next value: proofs may then be accepted for traces that break
+    /// the constraint. No check here compares the list with the constraints.
     fn main_next_row_columns(&self, alloc: Global) -> Result<Vec<usize>, AirError>
         ensures all { (has_own_next_row_columns self.now → ⊥) → IfOk result
             (λ columns. columns.items ≡ range_with_len 0 (declaration self.now).width) }
@@ -103,8 +102,7 @@ pub trait BaseAir<F: Copy> {
         columns_below(alloc, self.width())
     }
 
-    /// The columns of the preprocessed table whose next row the constraints read: all of them, where the AIR has no
-    /// list of its own. It refuses for want of memory alone.
+    /// The columns of the preprocessed trace whose next row the constraints read; by default all of them.
     ///
     /// # Correctness
     ///
@@ -118,13 +116,13 @@ pub trait BaseAir<F: Copy> {
         columns_below(alloc, self.preprocessed_width())
     }
 
-    /// How many constraints the AIR has, where it says so, base and extension ones together. Who reads it needn't
-    /// record the AIR to count them.
+    /// The number of constraints, base and extension together, where the AIR states it. A caller then needn't record
+    /// the AIR to count them.
     ///
     /// # Correctness
     ///
-    /// It has to be the exact number of constraints that `eval` asserts. A prover that weighs the constraints by powers
-    /// of alpha takes the number on trust: with another one its proofs are invalid. No check here compares the two.
+    /// It must be the exact number of constraints that `eval` asserts. A prover that weighs the constraints by powers
+    /// of alpha trusts it: with a wrong number its proofs are invalid. No check here compares the two.
     fn num_constraints(&self) -> Option<usize>
         ensures { (has_own_constraint_count self.now → ⊥) → result ≡ None }
     {
@@ -132,31 +130,31 @@ pub trait BaseAir<F: Copy> {
     }
 
     /// A bound on the constraints' degree, where the AIR gives one. Nothing here reads it: degrees are inferred from
-    /// what is recorded. A prover that takes the greater of both does no harm with too small a bound, and more work
-    /// with too great a one.
+    /// the recorded constraints. A prover that takes the greater of the bound and the inferred degree is not harmed by
+    /// a bound that is too small, and works more with one that is too great.
     fn max_constraint_degree(&self) -> Option<usize>
         ensures { (has_own_degree_bound self.now → ⊥) → result ≡ None }
     {
         None
     }
 
-    /// The cells of the main trace that are to hold public values.
+    /// The boundary values: cells of the main trace that are to hold public values.
     ///
     /// # Correctness
     ///
-    /// To list a cell binds nothing by itself: no constraint is asserted for it. A check or an audit compares it with
-    /// its public value, and so may a prover; one that knows no such cells proves nothing of them. Where that matters
-    /// assert the equality, under the first or the last row. An AIR inside another lists its cells with its own
-    /// columns: who takes it in has to list them anew, with the columns that they then have.
+    /// Listing a cell binds nothing by itself: no constraint is asserted for it. A check or an audit compares the cell
+    /// with its public value, and a prover may do so; a prover that ignores boundary values proves nothing about them.
+    /// Where that matters, assert the equality under the first or the last row. If an AIR is evaluated inside another,
+    /// the outer AIR must list the inner one's cells again, with the columns that they have there.
     fn public_boundary_io(&self) -> &[BoundaryPublic]
         ensures { result.now ≡ (declaration self.now).cells };
 
-    /// Whether the AIR is sound only where each cell of the main trace is a bit, which its constraints don't enforce.
+    /// Whether the AIR is sound only if each cell of the main trace is a bit, which its constraints don't enforce.
     ///
     /// # Correctness
     ///
-    /// It is advice: no prover, check or audit reads it. Who proves an AIR that says true has to see to the bits, by a
-    /// commitment that can hold nothing else, or else refuse it.
+    /// A hint: no prover, check or audit here reads it. Whoever proves an AIR that answers true must ensure the bits,
+    /// by a commitment that can hold nothing else, or reject the AIR.
     fn assumes_boolean_trace(&self) -> bool
         ensures { (has_own_boolean_trace self.now → ⊥) → result ≡ false }
     {
@@ -166,10 +164,9 @@ pub trait BaseAir<F: Copy> {
 
 /// An AIR for builders of one type.
 ///
-/// `eval` keeps the declaration: it answers Ok only after the builder grew by the declared list, and only where no
-/// declared term names an entry that is missing in the builder; it refuses only what the builder may refuse of that
-/// list, and where memory is wanting to the AIR itself. A refused `eval` leaves earlier entries and a beginning of its
-/// own, which isn't the whole.
+/// `eval` asserts the declared list. It is Ok only after the builder grew by the whole list, and only if no declared
+/// term names an entry that the builder lacks. It fails only as the builder's `refuses` allows of that list, or with
+/// the AIR's own `Memory`. After a failure the builder has grown by a strict prefix of the list.
 pub trait Air<AB: AirBuilder>: BaseAir<AB::F> {
     /// Asserts the constraints on the builder, in the order of the declared list.
     fn eval(&self, builder: &mut AB) -> Result<(), AirError>

@@ -32,9 +32,9 @@ pub(crate) fn less_one<F: Field, R: Algebra<F>>(
     ring.sub(x, one)
 }
 
-/// Receives the constraints of an AIR, which is written once against this interface: a builder records them as
-/// expressions, evaluates them on a row, or folds their values. What it is at decides how it reads a leaf; that an
-/// assertion adds its term to the list, and nothing else, holds of each.
+/// Receives the constraints of an AIR. An AIR is written once against this interface: a builder records the constraints
+/// as expressions, evaluates them on a row, or folds their values. Builders differ in how they read a leaf; in every
+/// builder an assertion adds its term to the list, and nothing else.
 pub trait AirBuilder {
     /// The field of the trace.
     type F: Field;
@@ -72,31 +72,32 @@ pub trait AirBuilder {
     /// How this builder reads a leaf: as itself where constraints are recorded, as a constant where a row is evaluated.
     ghost reads_as: { Self → Leaf → Term Self.F };
 
-    /// The builder's ring is as the builder left it, or extends it.
+    /// The ring is as the builder left it, or extends that.
     ghost ready: { Self → Type 0 };
 
-    /// The builder keeps its leaves, and what meant a term in it still does.
+    /// The second builder keeps the first one's leaves, and every element still means its term.
     ghost kept: { Self → Self → Type 0 };
 
     /// The builder grew by a list of assertions.
     ghost grew: { Self → Self → List (Assertion Self.F) → Type 0 };
 
-    /// A leaf has no entry here.
+    /// The builder has no entry for the leaf.
     ghost missing: { Self → Leaf → Type 0 };
 
-    /// Growing by these assertions may be refused with an error.
+    /// Growing by these assertions may fail with this error.
     ghost refuses: { Self → AirError → List (Assertion Self.F) → Type 0 };
 
-    /// The ring in which this builder's expressions are made. What the caller leaves there extends what was lent.
+    /// The ring in which this builder's expressions are made. The caller must leave an extension of the lent ring
+    /// there.
     fn ring(&mut self) -> &mut Self::Ring
         ensures* lends { sem 𝓛 (Lends Self.row Self.Ring.row self.entry result
             (with_ring self.old)) }
         ensures value { result.now ≡ ring_of self.old };
 
-    /// How many rows a window has.
+    /// The number of rows of a window.
     const WINDOW: usize = 2;
 
-    /// The window of the main trace. A builder that makes its window may refuse for want of memory.
+    /// The window of the main trace. A builder that allocates its window may fail with `Memory`.
     fn main(&self) -> Result<Self::MainWindow, AirError>
         ensures window { IfOk result Self.MainWindow.is_window }
         ensures current { IfOk result (λ w. RowReadsAs Self.Ring.FromVar-1.var_means
@@ -109,14 +110,14 @@ pub trait AirBuilder {
             (Self.MainWindow.next_row w)) }
         ensures refused { IfErr result (λ e. refuses self.now e []) };
 
-    /// The variable in a column of the main trace, at offset 0 the current row's and at 1 the next one's, if there is
-    /// one. Takes no memory, where a window may.
+    /// The variable in a column of the main trace, if there is one: at offset 0 the current row's, at 1 the next row's.
+    /// Never allocates, where `main` may.
     fn main_variable(&self, offset: usize, column: usize) -> Option<Self::Var>
         ensures found { IfSome result (VariableReadsAs Self.Ring.FromVar-1.var_means
             (reads_as self.now) (main offset column)) }
         ensures none { (result ≡ None) ↔ missing self.now (main offset column) };
 
-    /// The window of the preprocessed trace; without one it has no columns.
+    /// The window of the preprocessed trace; it has no columns if there is no preprocessed trace.
     fn preprocessed(&self) -> &Self::PreprocessedWindow
         ensures window { Self.PreprocessedWindow.is_window result.now }
         ensures current { RowReadsAs Self.Ring.FromVar-1.var_means
@@ -130,8 +131,8 @@ pub trait AirBuilder {
         ensures next_ends { RowEnds (missing self.now) (λ i. preprocessed 1 i)
             (Self.PreprocessedWindow.next_row result.now) };
 
-    /// The variable in a column of the preprocessed trace, at offset 0 the current row's and at 1 the next one's, if
-    /// there is one. Takes no memory.
+    /// The variable in a column of the preprocessed trace, if there is one: at offset 0 the current row's, at 1 the
+    /// next row's. Never allocates.
     #[inline(always)]
     fn preprocessed_variable(&self, offset: usize, column: usize) -> Option<Self::Var>
         ensures found { IfSome result (VariableReadsAs Self.Ring.FromVar-1.var_means
@@ -195,7 +196,7 @@ pub trait AirBuilder {
         self.is_transition()
     }
 
-    /// x - y in the builder's ring. The builder grew by nothing, also where that is refused.
+    /// x - y in the builder's ring. The builder grows by nothing, even if this fails.
     #[inline(always)]
     final fn difference(&mut self, x: Self::Expr, y: Self::Expr) -> Result<Self::Expr, AirError>
     where
@@ -283,7 +284,7 @@ pub trait AirBuilder {
         Ok(())
     }
 
-    /// Asserts that the elements at each place are equal, in order. Both lists must be of one length.
+    /// Asserts that the elements at each index are equal, in order. Both lists must have the same length.
     final fn assert_eq_slices(
         &mut self,
         left: &[Self::Expr],
@@ -302,7 +303,8 @@ pub trait AirBuilder {
         Ok(())
     }
 
-    /// A filter of this condition: each constraint that is asserted on it is asserted here times `condition`.
+    /// A filter with this condition: each constraint that is asserted on the filter is asserted here times `condition`.
+    /// Never fails.
     #[inline(always)]
     final fn when(
         &mut self,
@@ -354,8 +356,8 @@ pub trait AirBuilder {
         self.when(condition)
     }
 
-    /// A filter where `x` and `y` differ: its condition is x - y. A refusal leaves the builder open: where more is to
-    /// be said of it, make the [`difference`](AirBuilder::difference) first and then the filter.
+    /// A filter where `x` and `y` differ: its condition is x - y. If this fails, nothing is stated about the builder.
+    /// Where you need to know it, make the [`difference`](AirBuilder::difference) first and then the filter.
     #[inline(always)]
     final fn when_ne(
         &mut self,

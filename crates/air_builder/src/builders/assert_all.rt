@@ -10,7 +10,7 @@ use crate::builders::air_builder::AirBuilder;
 use crate::builders::view::View;
 use air_core::errors::AirError;
 
-/// Asserts arrays of `N` elements, one after another: growth by a term an element.
+/// Asserts arrays of `N` elements, in order: growth by one term for each element.
 pub trait AssertAll<const N: usize>: AirBuilder {
     /// Asserts that each element is zero.
     #[inline(always)]
@@ -33,7 +33,7 @@ pub trait AssertAll<const N: usize>: AirBuilder {
         self.assert_bools_slice(&elements)
     }
 
-    /// Asserts that the elements at each place are equal.
+    /// Asserts that the elements at each index are equal.
     #[inline(always)]
     final fn assert_eq_arrays(
         &mut self,

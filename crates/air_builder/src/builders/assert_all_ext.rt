@@ -7,7 +7,7 @@ use crate::builders::extension::ExtensionBuilder;
 use crate::builders::view::ViewOver;
 use air_core::errors::AirError;
 
-/// Asserts arrays of `N` elements over the extension, one after another: growth by a term an element.
+/// Asserts arrays of `N` elements over the extension, in order: growth by one term for each element.
 pub trait AssertAllExt<const N: usize>: ExtensionBuilder {
     /// Asserts that each element is zero.
     #[inline(always)]

@@ -11,7 +11,7 @@ use crate::builders::view::View;
 use air_core::errors::AirError;
 use air_core::names::namespace::Namespace;
 
-/// Asserts arrays of `N` elements, one after another, the i-th under the name `name::[i]`.
+/// Asserts arrays of `N` elements, in order, the i-th under the name `name::[i]`.
 pub trait AssertAllNamed<const N: usize>: NamedAirBuilder {
     /// Asserts that each element is zero.
     #[inline(always)]

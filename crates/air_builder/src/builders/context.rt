@@ -4,9 +4,9 @@ ghost use Rattle.std.specs.Prelude.{◌≡◌};
 use crate::builders::air_builder::AirBuilder;
 use crate::builders::filtered::FilteredAirBuilder;
 
-/// A builder that hands AIRs a context.
+/// A builder that passes AIRs a context.
 pub trait AirBuilderWithContext: AirBuilder {
-    /// What AIRs are handed.
+    /// The context that AIRs are passed.
     type EvalContext;
 
     ghost context: { Self → Self.EvalContext };
@@ -15,7 +15,7 @@ pub trait AirBuilderWithContext: AirBuilder {
     fn eval_context(&self) -> &Self::EvalContext
         ensures { result.now ≡ context self.now };
 
-    // what a builder keeps has the context
+    // keeping a builder keeps its context
     ghost context_kept: { (a b : Self) → Self.kept a b → context b ≡ context a };
 }
 

@@ -12,8 +12,8 @@ use crate::builders::view::{View, ViewExt, ViewOver};
 use air_core::errors::AirError;
 use air_field::{Algebra, ExtAlgebra, ExtensionField, FromVar};
 
-/// Receives base and extension constraints. Both share one counter: the place of a failure, and the power of alpha that
-/// weighs a constraint, count both kinds.
+/// Receives base and extension constraints. Both share one counter: the constraint index of a failure, and the power of
+/// alpha that weighs a constraint, count both kinds.
 pub trait ExtensionBuilder: AirBuilder {
     /// The extension of the trace's field.
     type EF: ExtensionField<Self::F>;
@@ -34,7 +34,8 @@ pub trait ExtensionBuilder: AirBuilder {
     /// The builder with another ring over the extension.
     ghost with_ext_ring: { Self → Self.ExtRing → Self };
 
-    /// The ring over the extension. Its base is the builder's ring. What the caller leaves there extends what was lent.
+    /// The ring over the extension. Its base is the builder's ring. The caller must leave an extension of the lent ring
+    /// there.
     fn ext_ring(&mut self) -> &mut Self::ExtRing
         ensures* lends { sem 𝓛 (Lends Self.row Self.ExtRing.row self.entry result
             (with_ext_ring self.old)) }

@@ -1,4 +1,4 @@
-//! Filters: builders that assert where a condition holds.
+//! Filters: builders that assert under a condition.
 ghost use Rattle.std.specs.Prelude.{◌≡◌, refl};
 ghost use Rattle.air_builder.specs.Filters.{condition_of, KeptInside, GrewInside, RefusesInside};
 ghost use Rattle.air_builder.specs.laws.Filters.{filter_laws};
@@ -8,7 +8,7 @@ use crate::builders::view::View;
 use air_core::errors::AirError;
 use air_field::Algebra;
 
-/// Asserts where a condition holds.
+/// Asserts under a condition: each assertion is multiplied by it.
 pub struct FilteredAirBuilder<'a, AB: AirBuilder> {
     pub inner: &'a mut AB,
     pub(crate) condition: AB::Expr,
@@ -24,7 +24,7 @@ impl<'a, AB: AirBuilder> FilteredAirBuilder<'a, AB> {
         FilteredAirBuilder { inner, condition }
     }
 
-    /// What each assertion is multiplied by.
+    /// The condition: the factor of each assertion.
     #[inline(always)]
     pub fn condition(&self) -> AB::Expr
         ensures { result ≡ condition_of self.now }

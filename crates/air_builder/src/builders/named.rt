@@ -19,8 +19,8 @@ use air_field::Algebra;
 
 /// Receives constraints with names.
 ///
-/// Labels are for people: they change no value, place or refusal. A builder that keeps labels evaluates a name only
-/// where its assertion fails, and keeps a text that the name displays. The name must be one that may be evaluated.
+/// Labels are for people: they change no value, index or error. A builder that keeps labels evaluates a name only if
+/// its assertion fails, and keeps a text that the name displays. The name must be one that may be evaluated.
 pub trait NamedAirBuilder: AirBuilder {
     /// The builder grew by a list of assertions under labels.
     ghost labelled: { Self → Self → List (Labelled Self.F) → Type 0 };

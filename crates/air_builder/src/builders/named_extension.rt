@@ -16,7 +16,7 @@ use air_core::errors::AirError;
 use air_core::names::name::Name;
 use air_field::Algebra;
 
-/// Receives constraints over an extension with names, as `NamedAirBuilder` does base constraints.
+/// Receives named constraints over an extension, as `NamedAirBuilder` receives named base constraints.
 pub trait NamedExtensionBuilder: ExtensionBuilder + NamedAirBuilder {
     /// Asserts that `x` is zero.
     fn assert_zero_ext_named<N: Name>(&mut self, x: Self::ExprEF, name: N) -> Result<(), AirError>

@@ -9,10 +9,10 @@ use crate::builders::view::View;
 use air_core::errors::AirError;
 use air_core::names::name::Name;
 
-/// A builder whose named assertions are those without a name: no name is evaluated.
+/// A builder whose named assertions do what the unnamed ones do: no name is evaluated.
 ///
-/// Its `NamedAirBuilder` has `discarding grew` for the growth under labels, whose laws are `discarding_laws`, and
-/// asserts by `assert_zero_unlabelled`.
+/// To implement `NamedAirBuilder` for it, take `discarding grew` as the growth under labels, `discarding_laws` as its
+/// laws, and `assert_zero_unlabelled` as the assertion.
 pub trait PassthroughNamedAirBuilder: AirBuilder {
     /// Asserts that `x` is zero, and discards the name.
     #[inline(always)]

@@ -12,7 +12,8 @@ use air_core::errors::AirError;
 use air_core::windows::access::WindowAccess;
 use air_field::{Algebra, FromVar};
 
-/// A builder with a permutation trace over the extension, its challenges, and the values that it exposes.
+/// A builder with a permutation trace over the extension, its challenges, and the values that the permutation argument
+/// exposes.
 pub trait PermutationAirBuilder: ExtensionBuilder
 where
     Self::ExtRing: FromVar<Self::F, Self::RandomVar> + FromVar<Self::F, Self::PermutationVar>,
@@ -26,8 +27,8 @@ where
     /// The values that the permutation argument exposes.
     type PermutationVar: Copy;
 
-    /// The window of the permutation trace. It may be refused with `NoPermutation`, only where the builder has no
-    /// permutation column, and as `main` may be.
+    /// The window of the permutation trace. It may fail as `main` may, and with `NoPermutation`, only if the builder
+    /// has no permutation column.
     fn permutation(&self) -> Result<Self::MP, AirError>
         ensures window { IfOk result Self.MP.is_window }
         ensures current { IfOk result (λ w. RowReadsAs Self.ExtRing.FromVar-1.var_means
@@ -40,8 +41,8 @@ where
             (Self.MP.next_row w)) }
         ensures refused { IfErr result (RefusesWindow ⟦<Self as View>⟧.view self.now) };
 
-    /// The variable in a column of the permutation trace, at offset 0 the current row's and at 1 the next one's, if
-    /// there is one. It may be refused where `permutation` is.
+    /// The variable in a column of the permutation trace, if there is one: at offset 0 the current row's, at 1 the next
+    /// row's. It fails as `permutation` does.
     #[inline(always)]
     fn permutation_variable(
         &self,

@@ -1,4 +1,4 @@
-//! What the clauses of builders speak of: any builder as its laws see it.
+//! The ghost members of a builder in one record, as clauses and laws use them.
 ghost use Rattle.air_builder.specs.Builders.{BuilderView};
 ghost use Rattle.air_builder.specs.Extensions.{ExtensionView, over_view};
 
@@ -6,7 +6,7 @@ use crate::builders::air_builder::AirBuilder;
 use crate::builders::extension::ExtensionBuilder;
 use air_field::{Algebra, ExtAlgebra};
 
-/// A builder as its laws see it.
+/// A builder's view: its ghost members and its ring's, in one record.
 pub trait View: AirBuilder {
     ghost view: { BuilderView Self Self.Ring Self.Expr Self.F };
 }
@@ -29,7 +29,7 @@ impl<AB: AirBuilder> View for AB {
     } };
 }
 
-/// A builder's ring over the extension as the laws see it.
+/// A builder's view of its ring over the extension.
 pub trait ViewExt: ExtensionBuilder {
     ghost over: { ExtensionView Self Self.ExtRing Self.Expr Self.ExprEF Self.F };
 }
@@ -48,7 +48,7 @@ impl<AB: ExtensionBuilder> ViewExt for AB {
     } };
 }
 
-/// A builder with its ring over the extension in the place of its base ring, as its laws see it.
+/// A builder's view with its ring over the extension in place of its base ring.
 pub trait ViewOver: ExtensionBuilder {
     ghost view: { BuilderView Self Self.ExtRing Self.ExprEF Self.F };
 }

@@ -35,11 +35,11 @@ product_zero R domain x y =
 then_so : {P Q S : Type 0} → P ↔ Q → Q ↔ S → P ↔ S
 then_so f g = ((λ h. g.0 (f.0 h)), (λ h. f.1 (g.1 h)))
 
--- the same of each below a number
+-- an equivalence for each number below a bound
 each_so : {n : ℕ} {P Q : ℕ → Type 0} → ((k : ℕ) → k < n → P k ↔ Q k) → ((k : ℕ) × (k < n) × P k) ↔ ((k : ℕ) × (k < n) × Q k)
 each_so f = ((λ h. (h.0, h.1, (f h.0 h.1).0 h.2)), (λ h. (h.0, h.1, (f h.0 h.1).1 h.2)))
 
--- ---- a product with so many carries: x (x + q) (x + 2 q) ..
+-- ---- a product with n carries: x (x + q) (x + 2 q) .. (x + n q)
 abbrev pub carry_out : {A : Type 0} → CommRing A → A → ℕ → ℕ → A
 carry_out R x q zero = x
 carry_out R x q (suc n) = R.mul (carry_out R x q n) (R.add x (image R (q * suc n)))

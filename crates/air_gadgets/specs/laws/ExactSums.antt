@@ -15,7 +15,7 @@ less_three_same R x y z w k l m n e f g h = λ i. minus R (minus R (minus R (e i
 whole_same : {A : Type 0} (R : CommRing A) (q x y k l : A) → x ≡ k → y ≡ l → R.add x (R.mul y q) ≡ R.add k (R.mul q l)
 whole_same R q x y k l e f = ap₂ R.add e (ap (λ z. R.mul z q) f ∙ R.mul_comm l q)
 
--- both terms vanish exactly if what they are is zero
+-- both asserted terms vanish exactly if the sum is right, for terms equal to those of Carrying
 both_vanish : {A : Type 0} (R : CommRing A) (n : ℕ) {P : Type 0} {x y k l : A} → x ≡ k → y ≡ l
     → ((carry_out R k 4294967296 n ≡ R.zero) × (carry_out R l 65536 n ≡ R.zero)) ↔ P
     → ((carry_out R x 4294967296 n ≡ R.zero) × ((carry_out R y 65536 n ≡ R.zero) × ⊤)) ↔ P

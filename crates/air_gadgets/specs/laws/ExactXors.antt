@@ -22,7 +22,7 @@ module _ {F : Type 0} (R : CommRing F) (s : Leaf → F) where
   value-xors (t ∷ ts) [] = refl
   value-xors (t ∷ ts) (u ∷ us) = ap (λ xs. value (self_algebra R) s (xor_term t u) ∷ xs) (value-xors ts us)
 
-  -- the tests for bits, and what is asserted after them
+  -- the tests for bits, and the assertions after them
   tests_then : (ts : List (Term F)) (rest : List (Assertion F)) → AllVanish R s (map (λ t. Base (bool_check_term R.one t)) ts ++ rest) → AllChecked R (map (value (self_algebra R) s) ts) × AllVanish R s rest
   tests_then [] rest h = (tt, h)
   tests_then (t ∷ ts) rest h = let more = tests_then ts rest h.1 in ((h.0, more.0), more.1)
@@ -34,7 +34,7 @@ module _ {F : Type 0} (R : CommRing F) (s : Leaf → F) where
   values_of : (u v : List (Term F)) (shift : ℕ) → map (value (self_algebra R) s) (xor_terms u (rotated_left shift v)) ≡ ring_xors R (map (value (self_algebra R) s) u) (rotated_left shift (map (value (self_algebra R) s) v))
   values_of u v shift = value-xors u (rotated_left shift v) ∙ ap (ring_xors R (map (value (self_algebra R) s) u)) (sym (map-rotated (value (self_algebra R) s) shift v))
 
-  -- of a half, cut alike
+  -- the value of a half, where terms and values are cut alike
   half_value : (f : List (Term F) → List (Term F)) (g : List F → List F) → ((ts : List (Term F)) → g (map (value (self_algebra R) s) ts) ≡ map (value (self_algebra R) s) (f ts))
       → (u v : List (Term F)) (shift : ℕ) → value (self_algebra R) s (packed_term R.zero (f (xor_terms u (rotated_left shift v)))) ≡ binary_sum R (g (ring_xors R (map (value (self_algebra R) s) u) (rotated_left shift (map (value (self_algebra R) s) v))))
   half_value f g alike u v shift =

@@ -23,7 +23,7 @@ module _ {F E : Type 0} (a : AlgebraOver F E) (none : F) (is : a.embed none ≡ 
   value-packed_from s t [] = last_bit a.ring (value a s t)
   value-packed_from s t (u ∷ us) = next_bit a.ring (value a s t) (value a s (packed_from u us)) (binary_sum a.ring (map (value a s) (u ∷ us))) (value-packed_from s u us)
 
-  -- the value of packed bits is that of the bits' values, packed
+  -- the value of packed bits is the bits' values, packed
   pub value-packed_term : (s : Leaf → E) (ts : List (Term F)) → value a s (packed_term none ts) ≡ binary_sum a.ring (map (value a s) ts)
   value-packed_term s [] = is
   value-packed_term s (t ∷ ts) = value-packed_from s t ts

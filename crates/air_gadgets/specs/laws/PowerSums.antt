@@ -1,4 +1,4 @@
--- what is packed is the sum of powers of two times elements
+-- Packing is the sum of powers of two times elements.
 use Rattle.std.proofs.Common.{◌≡◌, ◌∙◌, ℕ, suc, ◌+◌, ◌^◌, List, [], ◌∷◌, map, refl, sym, ap, ap₂, arith}
 use Rattle.std.proofs.Math.Nat.{pow-suc}
 use Rattle.air_field.specs.Ring.{CommRing, image, self_algebra}

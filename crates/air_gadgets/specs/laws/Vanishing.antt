@@ -1,4 +1,4 @@
--- Of lists that vanish their parts do.
+-- If a list vanishes, so do its parts.
 use Rattle.std.specs.Prelude.{◌≡◌, ℕ, zero, suc, ◌<◌, List, [], ◌∷◌, ◌++◌}
 use Rattle.std.proofs.Common.{subst, inl, inr, arith}
 use Rattle.std.proofs.lemmas.Bool.{cases_lt}
@@ -9,13 +9,13 @@ use Rattle.air_builder.specs.Vanishing.{AllVanish}
 use Rattle.air_author.specs.Constraints.{asserts_of_first}
 
 module _ {F : Type 0} (R : CommRing F) (s : Leaf → F) where
-  -- of two lists, both
+  -- both of two lists
   pub both_vanish : (ts us : List (Assertion F)) → AllVanish R s (ts ++ us) → AllVanish R s ts × AllVanish R s us
   both_vanish [] us h = (tt, h)
   both_vanish (Base t ∷ ts) us h = let more = both_vanish ts us h.1 in ((h.0, more.0), more.1)
   both_vanish (Extension t ∷ ts) us h = let more = both_vanish ts us h.1 in ((h.0, more.0), more.1)
 
-  -- of lists that an index numbers, each
+  -- each of the lists that an index numbers
   pub one_vanishes : (f : ℕ → List (Assertion F)) (n k : ℕ) → k < n → AllVanish R s (asserts_of_first f n) → AllVanish R s (f k)
   one_vanishes f zero k lt h = absurd (omega (arith, lt))
   one_vanishes f (suc n) k lt h =

@@ -1,4 +1,4 @@
--- Columns of bits make numbers.
+-- The numbers in columns of bits.
 use Rattle.std.specs.Prelude.{◌≡◌, ℕ, zero, suc, ◌+◌, ◌*◌, ◌^◌, ◌<◌, [], ◌∷◌, refl}
 use Rattle.std.proofs.Common.{sym, ◌∙◌, ap, ap₂, inl, inr, arith}
 use Rattle.std.proofs.Math.Nat.{pow-suc}
@@ -19,7 +19,7 @@ use Rattle.air_gadgets.specs.Numbers.{IsNumberBelow, IsWord}
 use Rattle.air_gadgets.specs.laws.Vanishing.{both_vanish, one_vanishes}
 
 module _ {F : Type 0} (R : CommRing F) (domain : IsDomain R) (s : Leaf → F) where
-  -- x (x - 1) is zero only of bits
+  -- x (x - 1) is zero only if x is 0 or 1
   bit_of : (x : F) → R.mul x (minus R x R.one) ≡ R.zero → (n : ℕ) × (n < 2) × (x ≡ image R n)
   bit_of x h =
       elim (domain x (minus R x R.one) h) [
@@ -30,7 +30,7 @@ module _ {F : Type 0} (R : CommRing F) (domain : IsDomain R) (s : Leaf → F) wh
   bit_below : (t : Term F) → value (self_algebra R) s (bool_check_term R.one t) ≡ R.zero → IsNumberBelow R s 2 t
   bit_below t h = let b = bit_of (value (self_algebra R) s t) h in record { number = b.0; below = b.1; is = b.2 }
 
-  -- bits packed are below a power of two
+  -- m + 1 packed bits are the image of a number below 2^(m + 1)
   packed_below : (at : ℕ → Term F) (i m : ℕ) → ((k : ℕ) → k < i + suc m → IsNumberBelow R s 2 (at k)) → IsNumberBelow R s (2 ^ suc m) (packed_from (at i) (terms_from at (i + 1) m))
   packed_below at i zero bits = bits i (omega arith)
   packed_below at i (suc m) bits =
@@ -45,7 +45,7 @@ module _ {F : Type 0} (R : CommRing F) (domain : IsDomain R) (s : Leaf → F) wh
             ∙ (ap (λ u. R.add u (image R bit.number)) (sym (image-mul R 2 above.number)) ∙ sym (image-add R (2 * above.number) bit.number))));
       }
 
-  -- what has so many bits is a number below the power of two
+  -- where the constraints of `HasBits` vanish for m + 1 columns, the term is a number below 2^(m + 1)
   pub bits_below : (t : Term F) (first m : ℕ) → AllVanish R s (has_bits R t first (suc m) (λ u. u)) → IsNumberBelow R s (2 ^ suc m) t
   unfolding packed_bits bits_asserts
   bits_below t first m h =
@@ -61,7 +61,7 @@ module _ {F : Type 0} (R : CommRing F) (domain : IsDomain R) (s : Leaf → F) wh
         is = (ring R (x ∷ y ∷ []) (var 0) (plus (less (var 0) (var 1)) (var 1)) refl ∙ (ap (λ z. R.add z y) parts.1.0 ∙ zero_add R y)) ∙ packed.is;
       }
 
-  -- a word that has its bits has 16 in each limb
+  -- where the constraints of `WordOfBits` vanish, both limbs have 16 bits
   pub bits_of_word : (first : ℕ) → AllVanish R s (word_bits R first (λ t. t)) → IsWord R s (word_at first)
   unfolding word_bits
   bits_of_word first h =

@@ -45,7 +45,7 @@ check_of_bit R zero h = ap (bit_check R) (image-zero R) ∙ check_at_zero R
 check_of_bit R (suc zero) h = ap (bit_check R) (image-one R) ∙ check_at_one R
 check_of_bit R (suc (suc n)) h = absurd (omega arith)
 
--- all pass exactly if they are the images of bits
+-- elements that all pass the test are the images of bits
 pub bits_of_checks : {A : Type 0} (R : CommRing A) → IsDomain R → (xs : List A) → AllChecked R xs → (ns : List ℕ) × (AreBits ns) × (xs ≡ map (image R) ns)
 bits_of_checks R domain [] h = ([], tt, refl)
 bits_of_checks R domain (x ∷ xs) h =
@@ -114,7 +114,7 @@ bits-append (b ∷ bs) cs hb hc = (hb.0, bits-append bs cs hb.1 hc)
 bits-rotated : (s : ℕ) (bs : List ℕ) → AreBits bs → AreBits (rotated_left s bs)
 bits-rotated s bs h = bits-append (drop (32 - s) bs) (take (32 - s) bs) (bits-drop (32 - s) bs h) (bits-take (32 - s) bs h)
 
--- the terms: the tests for bits, and what each half differs by
+-- the terms: the tests for bits, and the two differences of the halves
 abbrev pub half_value : {A : Type 0} → CommRing A → A → List A → A
 half_value R a xs = minus R a (binary_sum R xs)
 
@@ -124,7 +124,7 @@ TermsAreZero R a0 a1 bs cs s =
     × (half_value R a0 (take 16 (ring_xors R bs (rotated_left s cs))) ≡ R.zero)
     × (half_value R a1 (drop 16 (ring_xors R bs (rotated_left s cs))) ≡ R.zero)
 
--- what they mean: c is made of bits, and a is the xor of b and the rotated_left c
+-- their meaning: c is made of bits, and a is b xor c rotated to the left
 abbrev pub IsXor : {A : Type 0} → CommRing A → A → A → List ℕ → List ℕ → ℕ → Type 0
 IsXor R a0 a1 bs ns s =
     (a0 ≡ image R (number_of (take 16 (xor_bits bs (rotated_left s ns))))) × (a1 ≡ image R (number_of (drop 16 (xor_bits bs (rotated_left s ns)))))
@@ -134,7 +134,7 @@ half-image : {A : Type 0} (R : CommRing A) (s : ℕ) (bs ns : List ℕ) → AreB
 half-image R s bs ns hb hn =
     ap (ring_xors R (map (image R) bs)) (map-rotated (image R) s ns) ∙ xors-images R bs (rotated_left s ns) hb (bits-rotated s ns hn)
 
--- a half of both lists, cut alike
+-- a half of both lists, where elements and bits are cut alike
 cut_half : {A : Type 0} (R : CommRing A) (f : List A → List A) (g : List ℕ → List ℕ) → ((ns : List ℕ) → f (map (image R) ns) ≡ map (image R) (g ns))
     → (s : ℕ) (bs ns : List ℕ) → AreBits bs → AreBits ns
     → binary_sum R (f (ring_xors R (map (image R) bs) (rotated_left s (map (image R) ns)))) ≡ image R (number_of (g (xor_bits bs (rotated_left s ns))))

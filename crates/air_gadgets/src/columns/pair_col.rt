@@ -22,8 +22,7 @@ impl PairCol {
         }
     }
 
-    /// What stands in the column of these two rows. The column must be in range of their lengths, as
-    /// [`in_range`](PairCol::in_range) tells.
+    /// The column's entry in these two rows. The column must be below their lengths ([`in_range`](PairCol::in_range)).
     pub fn get<T: Copy>(self, preprocessed: &[T], main: &[T]) -> T
         requires { IsWithin (length preprocessed.now) (length main.now) self }
         ensures { entry_of self preprocessed.now main.now ≡ Some result }

@@ -1,4 +1,4 @@
-//! A column that no trace has: a weighted sum of columns.
+//! Virtual columns: weighted sums of columns.
 ghost use Rattle.std.specs.Prelude.{◌≡◌, ◌↔◌, IsTrue, IfOk, IfErr, [], All, length, map};
 ghost use Rattle.air_field.specs.Algebra.{MadeOf, RefusedOf, scaled_term};
 ghost use Rattle.air_gadgets.specs.declared.columns.pair_col.PairCol.TheVariants.{Preprocessed, Main};
@@ -13,7 +13,7 @@ use air_field::{Algebra, Field, RingError};
 use std::alloc::{AllocError, Global};
 use std::marker::Model;
 
-/// A constant and columns with their weights: a column that stands in no trace, as a key of a lookup or the packed
+/// A constant and columns with their weights: a column that is in no trace, such as the key of a lookup or the packed
 /// input of a gadget.
 #[derive(Debug, Drop)]
 pub struct VirtualPairCol<F> {
@@ -70,7 +70,7 @@ fn main_columns<F: Field>(
         .collect(alloc)
 }
 
-/// Each with the weight 1.
+/// Each column with the weight 1.
 fn each_once<F: Field>(alloc: Global, columns: &[usize]) -> Result<Vec<(usize, F)>, AllocError>
     ensures { IfOk result (λ v. v.items ≡ map (λ i. (i, F.ONE)) columns.now) }
 {
@@ -91,7 +91,7 @@ impl<F: Field> VirtualPairCol<F> {
         }
     }
 
-    /// The same of preprocessed columns alone.
+    /// The constant plus each weight times its preprocessed column.
     pub fn new_preprocessed(
         alloc: Global,
         column_weights: Vec<(usize, F)>,
@@ -104,7 +104,7 @@ impl<F: Field> VirtualPairCol<F> {
         Ok(Self::new(columns, constant))
     }
 
-    /// The same of main columns alone.
+    /// The constant plus each weight times its main column.
     pub fn new_main(
         alloc: Global,
         column_weights: Vec<(usize, F)>,
@@ -175,7 +175,7 @@ impl<F: Field> VirtualPairCol<F> {
         Self::new_main(alloc, column_weights, F::ZERO)
     }
 
-    // One column less another.
+    // One column minus another.
     fn diff(alloc: Global, a: PairCol, b: PairCol) -> Result<Self, AirError>
         ensures made { IfOk result (λ v. v ≡ difference_of F.ONE F.NEG_ONE F.ZERO a b) }
         ensures refused { IfErr result (λ e. e ≡ AirError.Memory) }
@@ -186,7 +186,7 @@ impl<F: Field> VirtualPairCol<F> {
         Ok(Self::new(column_weights, F::ZERO))
     }
 
-    /// One preprocessed column less another.
+    /// One preprocessed column minus another.
     pub fn diff_preprocessed(alloc: Global, a_col: usize, b_col: usize) -> Result<Self, AirError>
         ensures made { IfOk result
             (λ v. v ≡ difference_of F.ONE F.NEG_ONE F.ZERO (Preprocessed a_col) (Preprocessed b_col)) }
@@ -199,7 +199,7 @@ impl<F: Field> VirtualPairCol<F> {
         )
     }
 
-    /// One main column less another.
+    /// One main column minus another.
     pub fn diff_main(alloc: Global, a_col: usize, b_col: usize) -> Result<Self, AirError>
         ensures made { IfOk result (λ v. v ≡ difference_of F.ONE F.NEG_ONE F.ZERO (Main a_col)
             (Main b_col)) }
@@ -208,7 +208,7 @@ impl<F: Field> VirtualPairCol<F> {
         Self::diff(alloc, PairCol::Main(a_col), PairCol::Main(b_col))
     }
 
-    /// Whether every column named is below the width of its trace.
+    /// Whether each column that it names is below the width of its trace.
     pub fn fits(&self, preprocessed_width: usize, main_width: usize) -> bool
         ensures { IsTrue result ↔ FitsWithin preprocessed_width main_width self.now }
     {
@@ -220,8 +220,8 @@ impl<F: Field> VirtualPairCol<F> {
         true
     }
 
-    /// The constant plus the sum of weight times column, of the elements that stand in the columns. These must be in
-    /// range of the rows' lengths, as [`fits`](VirtualPairCol::fits) tells. It refuses only what the ring refuses.
+    /// The constant plus the sum of weight times entry, with the entries of these two rows. Each column must be below
+    /// its row's length ([`fits`](VirtualPairCol::fits)).
     pub fn apply<R: Algebra<F>>(
         &self,
         ring: &mut R,
@@ -247,7 +247,7 @@ impl<F: Field> VirtualPairCol<F> {
         Ok(total)
     }
 
-    /// An equal virtual column. It refuses for want of memory alone.
+    /// An equal virtual column.
     pub fn clone(&self) -> Result<Self, AllocError>
         ensures { IfOk result (λ copy. copy ≡ self.now) }
     {

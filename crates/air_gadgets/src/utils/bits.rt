@@ -58,7 +58,7 @@ fn xor_of<F: Field>(x: F, y: F) -> F
     x.add(y).sub(product.add(product))
 }
 
-/// The xor of bits; of none, 0.
+/// The xor of bits; 0 for the empty list.
 pub fn checked_xor<F: Field>(xs: &[F]) -> F
     ensures { (bits : List ℕ) → AreBits bits → xs.now ≡ map (image F.ring) bits
         → result ≡ image F.ring (xor_of_bits bits) }
@@ -70,7 +70,7 @@ pub fn checked_xor<F: Field>(xs: &[F]) -> F
     total
 }
 
-/// Of bits, y and not x.
+/// For bits: y and not x.
 pub fn checked_andn<F: Field>(x: F, y: F) -> F
     ensures { (m n : ℕ) → m < 2 → n < 2 → x ≡ image F.ring m → y ≡ image F.ring n
         → result ≡ image F.ring ((1 - m) * n) }

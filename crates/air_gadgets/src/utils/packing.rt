@@ -7,7 +7,7 @@ ghost use Rattle.air_gadgets.specs.PowerSums.{PacksValues};
 use air_builder::AirError;
 use air_field::{Algebra, Field};
 
-/// The sum of 2^i v_i; of none, 0.
+/// The sum of 2^i v_i; 0 for the empty list.
 pub fn pack_bits_le<F: Field, R: Algebra<F>>(
     ring: &mut R,
     bits: &[R::Elem],

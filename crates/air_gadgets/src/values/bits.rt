@@ -10,7 +10,7 @@ use air_author::{
 };
 use air_builder::AirBuilder;
 
-/// So many columns of this row, from the first on.
+/// `count` columns of this row, from column `first` on.
 #[derive(Clone, Copy, Drop)]
 pub struct Columns {
     pub first: usize,
@@ -19,7 +19,7 @@ pub struct Columns {
 }
 
 impl Columns {
-    /// So many columns of this row, from the first on.
+    /// `count` columns of this row, from column `first` on.
     pub const fn new(first: usize, count: usize) -> Self
         requires { first + count < 2 ^ 64 }
         ensures from { result.first ≡ first }
@@ -43,7 +43,7 @@ impl<AB: AirBuilder> Series<AB> for Columns {
     }
 }
 
-/// The sum of 2^i x_i of columns.
+/// The sum of 2^i x_i of the columns; zero for no column.
 #[derive(Clone, Copy, Drop)]
 pub struct PackedBits(pub Columns);
 
@@ -56,7 +56,7 @@ impl<AB: AirBuilder> Expression<AB> for PackedBits {
     }
 }
 
-/// Columns are zero or one.
+/// Each column is zero or one.
 #[derive(Clone, Copy, Drop)]
 pub struct Bits(pub Columns);
 
@@ -89,7 +89,7 @@ impl<AB: AirBuilder> Constraint<AB> for Bits {
     }
 }
 
-/// Columns are zero or one, and the expression is the number whose bits they are, the lowest first.
+/// Each column is zero or one, and the expression is the number with these bits, the lowest first.
 #[derive(Clone, Copy, Drop)]
 pub struct HasBits<X>(pub X, pub Columns);
 

@@ -1,4 +1,4 @@
-//! Expressions that an index numbers, packed into one.
+//! Expressions numbered by an index, packed into one.
 ghost use Rattle.std.specs.Prelude.{◌≡◌, ℕ, ◌+◌, ◌<◌, ◌≤◌, IfOk, IfErr};
 ghost use Rattle.air_field.specs.Algebra.{MadeOfBoth, RefusedOfBoth};
 ghost use Rattle.air_field.specs.Term.{Term};
@@ -10,19 +10,19 @@ use air_author::{AirResult, Constant, Expression, to_air_result};
 use air_builder::{AirBuilder, View};
 use air_field::{Algebra, Field, RingError};
 
-/// Expressions that an index numbers.
+/// Expressions numbered by an index.
 pub trait Series<AB: AirBuilder> {
-    /// How many there are.
+    /// The number of expressions.
     ghost count: { Self → ℕ };
 
-    /// What the one at an index means.
+    /// The term of the expression at an index.
     ghost term_at: { Self → ℕ → Term AB.F };
 
-    /// How many there are.
+    /// The number of expressions.
     fn count(&self) -> usize
         ensures { result ≡ count self.now };
 
-    /// Makes the one at the index.
+    /// Makes the expression at the index.
     fn make_at(&self, index: usize, builder: &mut AB) -> AirResult<AB::Expr>
         requires ready { AB.ready builder.old }
         requires within { index < count self.now }
@@ -47,7 +47,7 @@ fn twice_and<F: Field, R: Algebra<F>>(
     ring.add(twice, y)
 }
 
-/// The sum of 2^i x_i, of the one at an index and of so many more.
+/// The sum of 2^i x_i over the expression at index `at` and the `more` after it.
 fn make_packed<AB: AirBuilder, S: Series<AB>>(
     builder: &mut AB,
     series: &S,
@@ -68,7 +68,7 @@ fn make_packed<AB: AirBuilder, S: Series<AB>>(
     to_air_result(twice_and(builder.ring(), above, bit))
 }
 
-/// The sum of 2^i x_i; of none, zero.
+/// The sum of 2^i x_i; zero for an empty series.
 #[derive(Clone, Copy, Drop)]
 pub struct Packed<S>(pub S);
 

@@ -14,8 +14,8 @@ use air_author::{
 };
 use air_builder::{AirBuilder, View};
 
-// What an operation is of is handed by reference, to kinds that keep references: of references as kinds of their own,
-// as in Difference<&X, &Y>, each costs seconds of proof wherever it stands.
+// Operands are passed by reference, to types that keep references. Operations on references, such as Difference<&X,
+// &Y>, would do, but each use takes seconds longer to prove.
 
 /// The lower and the upper 16 bits of a word.
 #[derive(Clone, Copy, Drop)]
@@ -92,7 +92,7 @@ impl<'a, AB: AirBuilder, X: Expression<AB>> Expression<AB> for Carry<'a, X> {
     }
 }
 
-/// Asserts that it is zero.
+/// Asserts that x is zero under the condition.
 fn assert_zero<AB: AirBuilder, X: Expression<AB>, K: Condition<AB>>(
     builder: &mut AB,
     condition: &K,
@@ -107,7 +107,7 @@ fn assert_zero<AB: AirBuilder, X: Expression<AB>, K: Condition<AB>>(
     Zero(x).assert_under(builder, condition)
 }
 
-/// Asserts that both are zero, in order.
+/// Asserts that both are zero under the condition, in order.
 fn assert_both_zero<AB: AirBuilder, X: Expression<AB>, Y: Expression<AB>, K: Condition<AB>>(
     builder: &mut AB,
     condition: &K,
@@ -125,7 +125,7 @@ fn assert_both_zero<AB: AirBuilder, X: Expression<AB>, Y: Expression<AB>, K: Con
     assert_zero(builder, condition, y)
 }
 
-/// Asserts that low + 2^16 high and low are zero but for a carry.
+/// Asserts that low + 2^16 high and low are zero up to a carry.
 fn assert_zero_but_carry<AB: AirBuilder, X: Expression<AB>, Y: Expression<AB>, K: Condition<AB>>(
     builder: &mut AB,
     condition: &K,
@@ -149,7 +149,7 @@ fn assert_zero_but_carry<AB: AirBuilder, X: Expression<AB>, Y: Expression<AB>, K
     )
 }
 
-/// The word a is b + c modulo 2^32, where each limb is known to have 16 bits.
+/// The word a is b + c modulo 2^32, if each limb has 16 bits, which isn't asserted.
 #[derive(Clone, Copy, Drop)]
 pub struct Add2<X, Y, Z> {
     pub a: Word<X>,
@@ -196,7 +196,7 @@ impl<
     }
 }
 
-/// x (x + n) (x + 2n), of which 2n is handed too
+/// x (x + n) (x + 2n); the fields are x, n and 2n
 #[derive(Drop)]
 struct TwoCarries<'a, X>(&'a X, u64, u64);
 
@@ -211,7 +211,7 @@ impl<'a, AB: AirBuilder, X: Expression<AB>> Expression<AB> for TwoCarries<'a, X>
     }
 }
 
-/// Asserts that low + 2^16 high and low are zero but for two carries.
+/// Asserts that low + 2^16 high and low are zero up to two carries.
 fn assert_zero_but_two_carries<
     AB: AirBuilder,
     X: Expression<AB>,
@@ -231,7 +231,7 @@ fn assert_zero_but_two_carries<
     assert_both_zero(builder, condition, &whole, &TwoCarries(low, 65536, 131072))
 }
 
-/// The word a is b + c + d modulo 2^32, where each limb is known to have 16 bits.
+/// The word a is b + c + d modulo 2^32, if each limb has 16 bits, which isn't asserted.
 #[derive(Clone, Copy, Drop)]
 pub struct Add3<X, Y, Z, W> {
     pub a: Word<X>,

@@ -6,8 +6,8 @@ use crate::values::sums::Word;
 use air_author::{AirResult, Condition, Constraint, Current};
 use air_builder::AirBuilder;
 
-/// The word whose lower limb is in this column, with the 16 columns of its bits behind it, the lowest first, and then
-/// the upper limb with its.
+/// A word in 34 columns: the lower limb in column `first`, the 16 columns of its bits, the lowest first, then the upper
+/// limb and the 16 columns of its bits.
 #[derive(Clone, Copy, Drop)]
 pub struct WordOfBits {
     pub first: usize,

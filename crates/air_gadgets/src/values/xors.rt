@@ -9,7 +9,8 @@ use air_author::{
 };
 use air_builder::AirBuilder;
 
-/// The word b and the word c rotated to the left, whose bits are 32 columns each, from these on.
+/// The word b and the word c rotated to the left by `shift`. The bits of each are 32 columns, from column `b` and from
+/// column `c` on.
 #[derive(Clone, Copy, Drop)]
 pub struct Rotated {
     pub b: usize,
@@ -20,7 +21,7 @@ pub struct Rotated {
     pub ghost within: { shift ≤ 32 },
 }
 
-/// A half of the bits of their xor.
+/// 16 bits of the xor of the two words, from bit `from` on.
 #[derive(Clone, Copy, Drop)]
 struct XorHalf {
     words: Rotated,
@@ -47,7 +48,8 @@ impl<AB: AirBuilder> Series<AB> for XorHalf {
     }
 }
 
-/// The columns of c are zero or one, and the word is the xor, where the columns of b are known to be zero or one.
+/// The columns of c are zero or one, and the word is the xor, if the columns of b are zero or one, which isn't
+/// asserted.
 #[derive(Clone, Copy, Drop)]
 pub struct Xor32Shift<X>(pub Word<X>, pub Rotated);
 

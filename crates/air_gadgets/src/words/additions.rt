@@ -7,14 +7,14 @@ use crate::words::sums::{sum_of_three, sum_of_two};
 use air_builder::{AirBuilder, AirError, View};
 use air_field::{Algebra, Field, FromVar};
 
-/// Asserts a = b + c modulo 2^32, of words of two limbs of 16 bits, the lower one first.
+/// Asserts a = b + c modulo 2^32, for words of two limbs of 16 bits, the lower one first.
 ///
 /// # Correctness
 ///
-/// That the limbs have 16 bits isn't asserted: check their ranges yourself. Then the assertion is exact in a field of
-/// characteristic above 2^17 in which a product is zero only if a factor is
-/// ([`words_are_exact`](crate::laws::words_are_exact)): a - b - c is 0 or -2^32, and of the low limbs it is 0 or -2^16,
-/// which fixes the carry.
+/// That the limbs have 16 bits isn't asserted: check their ranges yourself. If they do, the assertion is exact in a
+/// field of characteristic above 2^17 in which a product is zero only if a factor is
+/// ([`words_are_exact`](crate::laws::words_are_exact)): a - b - c is 0 or -2^32, and the difference of the low limbs is
+/// 0 or -2^16, which fixes the carry.
 pub fn add2<AB: AirBuilder>(
     builder: &mut AB,
     a: &[AB::Var; 2],
@@ -32,13 +32,13 @@ pub fn add2<AB: AirBuilder>(
     builder.assert_zeros_slice(&elements)
 }
 
-/// Asserts a = b + c + d modulo 2^32, of words of two limbs of 16 bits, the lower one first.
+/// Asserts a = b + c + d modulo 2^32, for words of two limbs of 16 bits, the lower one first.
 ///
 /// # Correctness
 ///
-/// That the limbs have 16 bits isn't asserted: check their ranges yourself. Then the assertion is exact in a field of
-/// characteristic above 3 · 2^16 in which a product is zero only if a factor is
-/// ([`words_are_exact`](crate::laws::words_are_exact)); both carries may be 0, 1 or 2.
+/// That the limbs have 16 bits isn't asserted: check their ranges yourself. If they do, the assertion is exact in a
+/// field of characteristic above 3 · 2^16 in which a product is zero only if a factor is
+/// ([`words_are_exact`](crate::laws::words_are_exact)); each carry may be 0, 1 or 2.
 pub fn add3<AB: AirBuilder>(
     builder: &mut AB,
     a: &[AB::Var; 2],

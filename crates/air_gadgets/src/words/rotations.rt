@@ -51,11 +51,14 @@ fn assert_half<AB: AirBuilder>(
     builder.assert_zero(difference)
 }
 
-/// Asserts that `c` is made of bits and that the word `a` is the xor of `b` and `c` rotated to the left by `shift`,
-/// which must be at most 32, where `b` is known to be made of bits; bits are listed lowest first, and the lower limb
-/// first. So it is in a field in which a product is zero only if a factor is
-/// ([`words_are_exact`](crate::laws::words_are_exact)). The limbs of `a` then are images of the word's halves, which
-/// tells the word itself only in a field of characteristic 2^16 and above.
+/// Asserts that `c` is made of bits, and that the word `a` is the xor of `b` and of `c` rotated to the left by `shift`,
+/// which must be at most 32. Bits are listed lowest first, and the lower limb first.
+///
+/// # Correctness
+///
+/// That `b` is made of bits isn't asserted: assert it yourself. If it is, the assertion is exact in a field in which a
+/// product is zero only if a factor is ([`words_are_exact`](crate::laws::words_are_exact)): the limbs of `a` are the
+/// images of the word's halves. They determine the word only in a field of characteristic at least 2^16.
 pub fn xor_32_shift<AB: AirBuilder>(
     builder: &mut AB,
     a: &[AB::Var; 2],

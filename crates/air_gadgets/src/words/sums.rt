@@ -1,4 +1,4 @@
-//! The elements that an addition asserts, made in a ring.
+//! The elements that an addition asserts to be zero, made in a ring.
 ghost use Rattle.std.specs.Prelude.{All};
 ghost use Rattle.std.specs.List.{AllZip};
 ghost use Rattle.air_gadgets.specs.Gadgets.{FromTwo, FromThree, FromFour, MakesFrom, LimbsMean, RefusesOne, carried_terms, add2_terms, add3_terms};
@@ -6,7 +6,8 @@ ghost use Rattle.air_gadgets.specs.Gadgets.{FromTwo, FromThree, FromFour, MakesF
 use crate::words::limbs::{carries, less_three, less_two, whole_word};
 use air_field::{Algebra, Field, FromVar, RingError};
 
-/// The whole difference and the low one, each times itself and a carry, or two.
+/// The whole difference x and the low one, each as x (x + n), or with `two` carries as x (x + n) (x + 2n); n is 2^32 or
+/// 2^16.
 fn with_carries<F: Field, R: Algebra<F>>(
     ring: &mut R,
     two: bool,
@@ -26,7 +27,7 @@ fn with_carries<F: Field, R: Algebra<F>>(
     Ok([first, second])
 }
 
-/// What the sum of two words asserts to be zero.
+/// The elements that the sum of two words asserts to be zero.
 pub(crate) fn sum_of_two<F: Field, V: Copy, R: FromVar<F, V>>(
     ring: &mut R,
     a: &[V; 2],
@@ -49,7 +50,7 @@ pub(crate) fn sum_of_two<F: Field, V: Copy, R: FromVar<F, V>>(
     with_carries(ring, false, low, high)
 }
 
-/// What the sum of three words asserts to be zero.
+/// The elements that the sum of three words asserts to be zero.
 pub(crate) fn sum_of_three<F: Field, V: Copy, R: FromVar<F, V>>(
     ring: &mut R,
     a: &[V; 2],

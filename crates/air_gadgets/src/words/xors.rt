@@ -42,7 +42,7 @@ fn packed_xor<F: Field, V: Copy, R: FromVar<F, V>>(
     ring.add(twice, lowest)
 }
 
-/// A variable less the packed xor of two lists of variables.
+/// A variable minus the packed xor of two lists of variables.
 pub(crate) fn less_packed<F: Field, V: Copy, R: FromVar<F, V>>(
     ring: &mut R,
     x: V,

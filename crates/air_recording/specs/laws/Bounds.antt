@@ -1,4 +1,4 @@
--- What bounds degrees of terms bounds the degrees of their polynomials over so many rows.
+-- A bound on the degrees of terms bounds the degrees of their polynomials over n rows.
 use Rattle.std.proofs.Common.{ℕ, zero, suc, ◌-◌, ◌*◌, add-mul, ◌≤◌, max, List, slice_index_or, arith}
 use Rattle.std.proofs.Math.Nat.{max-le, le-max_left, le-max_right, mul-le-mul_right}
 use Rattle.air_field.specs.Ring.{AlgebraOver}
@@ -11,7 +11,7 @@ greater_scaled : {x y : ℕ} (a b k : ℕ) → x ≤ a * k → y ≤ b * k → m
 greater_scaled a b k h i =
     max-le (omega (arith, h, mul-le-mul_right {m = a} {n = max a b} k (le-max_left a b))) (omega (arith, i, mul-le-mul_right {m = b} {n = max a b} k (le-max_right a b)))
 
--- Where each weight is taken so many times, a degree is no greater than the degree so many times.
+-- If each weight is multiplied by k, a degree is at most k times as great.
 scaled_within : {F : Type 0} (w : Leaf → ℕ) (k : ℕ) (t : Term F) → degree_by (λ l. w l * k) t ≤ degree_by w t * k
 scaled_within w k (leaf_term l) = omega arith
 scaled_within w k (const_term c) = omega arith
@@ -22,7 +22,7 @@ scaled_within w k (neg_term t) = scaled_within w k t
 scaled_within w k (mul_term t u) =
     omega (arith, scaled_within w k t, scaled_within w k u, add-mul (degree_by w t) (degree_by w u) k)
 
--- The degree for so many rows bounds degrees by the degrees of the leaves' polynomials.
+-- The degree for n rows bounds the degrees by the degrees of the leaves' polynomials.
 pub degrees_within : {F : Type 0} (w n : ℕ) (periods : List ℕ) (ts : List (Term F)) (d : ℕ) → IsDegreeFor w n periods ts d → 2 ≤ n → DegreesWithin (leaf_degree w n periods) (polynomial_bound w d n) ts
 degrees_within zero n periods ts d h two = h.within two
 degrees_within (suc w) n periods ts d h two = λ k t b.
@@ -30,6 +30,6 @@ degrees_within (suc w) n periods ts d h two = λ k t b.
     let u = slice_index_or ts k t in
     omega (arith, scaled_within v (n - 1) u, mul-le-mul_right {m = degree_by v u} {n = d} (n - 1) (h.within k t b))
 
--- Terms of such degrees have polynomials of such degrees.
+-- Terms with degrees within a bound have polynomials with degrees within it.
 pub polynomials_within : {F E : Type 0} (a : AlgebraOver F E) (w : Leaf → ℕ) (bound : ℕ) (ts : List (Term F)) → DegreesWithin w bound ts → PolynomialsWithin a w bound ts
 polynomials_within a w bound ts h s leaves k d b m past = polynomial-degree a s w leaves (slice_index_or ts k d) m (omega (arith, past, h k d b))

@@ -20,7 +20,7 @@ use Rattle.air_builder.specs.laws.Refused.{Refused-first, Refused-then, Refused-
 use Rattle.air_recording.specs.Kinds.{kind_of, base_terms, ext_terms}
 use Rattle.air_recording.specs.Recording.{Fixed, Lists, with_base, with_ext, IsReady, KeptRecording, GrewRecording, OverflowsDegree}
 
--- a term with each leaf put at itself
+-- a term with each leaf replaced by itself
 pub with_leaves-same : {F : Type 0} (t : Term F) → with_leaves (λ l. leaf_term l) t ≡ t
 with_leaves-same (leaf_term l) = refl
 with_leaves-same (const_term c) = refl
@@ -43,7 +43,7 @@ ext_terms-append [] ys = refl
 ext_terms-append (Base t ∷ xs) ys = ext_terms-append xs ys
 ext_terms-append (Extension t ∷ xs) ys = ap (λ ts. t ∷ ts) (ext_terms-append xs ys)
 
--- The base ring, of elements E, lies under the pool, whose elements are X.
+-- The base ring, with elements E, is under the pool, whose elements are X.
 module _ {R Q E X F : Type 0}
     {valid : R → Type 0} {has : R → E → Type 0} {means : R → E → Term F → Type 0} {extends : R → R → Type 0}
     {ext_valid : Q → Type 0} {ext_has : Q → X → Type 0} {ext_means : Q → X → Term F → Type 0}
@@ -147,7 +147,7 @@ module _ {R Q E X F : Type 0}
       (ring_is : (b : S) (r : R) → base_of (pool (with_ring b r)) ≡ r)
       (fixed_is : (b : S) (r : R) → fixed (with_ring b r) ≡ fixed b)
       (lists_are : (b : S) (r : R) → lists (with_ring b r) ≡ lists b) where
-    -- a builder that records, as its laws see it
+    -- the view of a builder that records
     abbrev pub recording_view : BuilderView S R E F
     recording_view = record {
       valid = valid;
@@ -166,7 +166,7 @@ module _ {R Q E X F : Type 0}
       refuses = λ b e ts. Refused (IsMissing (fixed b).shape) (OverflowsDegree cached_weight) (λ _. ⊥) e ts;
     }
 
-    -- it keeps the laws
+    -- a builder that records keeps the laws
     pub recording_laws : BuilderLaws recording_view
     recording_laws = record {
       same = λ a. recorded_none (pool a) (pool a) (fixed a) (fixed a) (lists a) (lists a) (ext.same (pool a)) refl refl;
@@ -193,7 +193,7 @@ module _ {R Q E X F : Type 0}
       refuses_missing = λ a e l ts m n p. Refused-missing (IsMissing (fixed a).shape) (OverflowsDegree cached_weight) (λ _. ⊥) e l ts m n p;
     }
 
-    -- and those of builders over the extension: the base of the pool is the builder's ring
+    -- the laws of builders over the extension: the base of the pool is the builder's ring
     module _ {base_has : Q → E → Type 0} {base_means : Q → E → Term F → Type 0} (with_ext_ring : S → Q → S)
         (ext_ring_is : (b : S) (q : Q) → pool (with_ext_ring b q) ≡ q)
         (fixed_stays : (b : S) (q : Q) → fixed (with_ext_ring b q) ≡ fixed b)

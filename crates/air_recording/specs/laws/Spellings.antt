@@ -1,4 +1,4 @@
--- Layouts as JSON values: what is read is what is spelt, and what is written is one spelling.
+-- Layouts as JSON values: the reader answers the layout that is spelt, and the writer writes a spelling of it.
 use Rattle.std.specs.Prelude.{◌≡◌, ℕ, List, Option, Some, None, option_and_then, codes, refl}
 use Rattle.std.proofs.Common.{sym, ap, ◌∙◌}
 use Rattle.serde_json.specs.Data.{Data}
@@ -28,7 +28,7 @@ layout_again d l h =
     ∙ (count_read (codes "num_permutation_values") d l.num_permutation_values _ h.values
     ∙ count_read (codes "num_periodic_columns") d l.num_periodic_columns _ h.periodic)))))
 
--- one field was found, and what stands behind it
+-- one field was found, and the result of `next`
 found_of : (o : Option ℕ) (next : ℕ → Option AirLayout) (l : AirLayout) → option_and_then next o ≡ Some l → (n : ℕ) × (o ≡ Some n) × (next n ≡ Some l)
 found_of None next l e = absurd cc
 found_of (Some n) next l e = (n, refl, e)

@@ -4,10 +4,10 @@ ghost use Rattle.air_recording.specs.Layouts.{air_layout, FitsAir, LayoutRefuses
 
 use air_builder::{AirError, BaseAir};
 
-/// How many entries of each kind a symbolic builder has; by default none.
+/// The number of entries of each kind in a symbolic builder; by default 0.
 #[derive(Clone, Copy, Debug, Default, PartialEq, Eq)]
 pub struct AirLayout {
-    /// Columns of the preprocessed table: [`BaseAir::preprocessed_width`].
+    /// Columns of the preprocessed trace: [`BaseAir::preprocessed_width`].
     pub preprocessed_width: usize,
     /// Columns of the main trace: [`BaseAir::width`].
     pub main_width: usize,
@@ -24,7 +24,7 @@ pub struct AirLayout {
 }
 
 impl AirLayout {
-    /// The layout that the AIR says it has; the three permutation counts are 0.
+    /// The layout that the AIR declares; the three permutation counts are 0.
     pub fn from_air<F: Copy, A: BaseAir<F>>(air: &A) -> Self
         ensures { result ≡ air_layout (A.declaration air.now) }
     {
@@ -39,14 +39,14 @@ impl AirLayout {
         }
     }
 
-    /// Compares the counts that the AIR determines with the layout's: main width, then public values, then periodic
-    /// columns. It takes no memory.
+    /// Compares the layout's main width, then its public values, then its periodic columns with the AIR's. The error
+    /// names the first that differs. Never allocates.
     ///
     /// # Correctness
     ///
-    /// The preprocessed width isn't compared: prover and verifier take it from the table that was committed to, which
-    /// may be wider than the AIR says, or absent. A recording by a layout that is narrower than the constraints'
-    /// columns is refused; one that is wider than the committed table is for the caller to notice.
+    /// The preprocessed width isn't compared: prover and verifier take it from the committed trace, which may be wider
+    /// than the AIR declares, or absent. A layout narrower than the columns that the constraints read makes the
+    /// recording fail. A layout wider than the committed trace is for the caller to notice.
     pub fn validate_against_air<F: Copy, A: BaseAir<F>>(&self, air: &A) -> Result<(), AirError>
         ensures fits { OnOk result (FitsAir self.now (A.declaration air.now)) }
         ensures refused { IfErr result (LayoutRefuses self.now (A.declaration air.now)) }

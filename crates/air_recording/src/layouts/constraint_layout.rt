@@ -8,17 +8,17 @@ use air_builder::AirError;
 use air_field::{ExtensionField, Field};
 use std::alloc::{AllocError, Global};
 
-/// Where the base and the extension constraints stand among all constraints.
+/// The constraint indices of the base and of the extension constraints, among all constraints.
 #[derive(Debug, Drop)]
 pub struct ConstraintLayout {
-    /// The places of the base constraints, in order.
+    /// The indices of the base constraints, in order.
     pub base_indices: Vec<usize>,
-    /// The places of the extension constraints, in order.
+    /// The indices of the extension constraints, in order.
     pub ext_indices: Vec<usize>,
 }
 
 impl ConstraintLayout {
-    /// How many constraints there are.
+    /// The number of constraints.
     pub fn total_constraints(&self) -> usize
         ensures { result ≡ constraint_count self.now }
     {
@@ -39,12 +39,12 @@ impl ConstraintLayout {
     ///
     /// First, for each of the `DIMENSION` basis elements, the coefficients of the base constraints' weights there, in
     /// the order of `base_indices`; then the whole weights of the extension constraints, in the order of `ext_indices`.
-    /// Where the indices are the places of a list of constraints, each once and in order, the sum of each coefficient
-    /// times its basis element times its constraint's value, and of each whole weight times its constraint's value, is
-    /// the fold of all values in order.
+    /// If the indices are those of a list of constraints, each once and in order, the fold of all values in order is
+    /// the sum of each coefficient times its basis element times its constraint's value, plus the sum of each whole
+    /// weight times its constraint's value.
     ///
-    /// It refuses the first index at or past the count of constraints, base indices first, and want of memory. The
-    /// count itself always fits `usize`, since so many indices fit into memory.
+    /// `IndexPastTotal` names the first index at or past the number of constraints, base indices first. That number
+    /// always fits `usize`, since the indices fit into memory.
     pub fn decompose_alpha<F: Field, EF: ExtensionField<F>>(
         &self,
         alloc: Global,
@@ -79,7 +79,7 @@ fn first_past(indices: &[usize], total: usize) -> Option<usize>
     indices.iter().copied().find(|index| *index >= total)
 }
 
-/// The powers at these indices, counted from the last power on.
+/// The powers at these indices, counted from the last power backwards.
 fn powers_at<T: Copy>(alloc: Global, powers: &[T], indices: &[usize]) -> Result<Vec<T>, AllocError>
     requires { All (λ i. i < length powers.now) indices.now }
     ensures { IfOk result (λ v. (d : T) → v.items ≡ map

@@ -1,4 +1,4 @@
-//! The symbolic builder: what is asserted becomes expressions of a pool.
+//! The symbolic builder: assertions become expressions of a pool.
 ghost use Rattle.std.specs.Prelude.{◌≡◌, IfOk, IfErr};
 ghost use Rattle.air_recording.specs.RecordedLists.{no_lists, recorded_by, pool_of, selectors_of, layout_of};
 ghost use Rattle.air_recording.specs.Folds.{ArePlacesOf};
@@ -14,8 +14,8 @@ use air_field::{ExtensionField, Field};
 use air_symbolic::{BaseLeaf, ExprId, ExprPool, ExtLeaf};
 use std::alloc::Global;
 
-/// Records what is asserted as expressions of its pool, in order: base constraints over its base pool, extension
-/// constraints over the whole.
+/// Records each assertion as an expression of its pool, in order: base constraints in its base pool, extension
+/// constraints in the whole pool.
 #[derive(Drop)]
 pub struct SymbolicAirBuilder<F: Field, EF: ExtensionField<F>> {
     pub(crate) alloc: Global,
@@ -26,7 +26,8 @@ pub struct SymbolicAirBuilder<F: Field, EF: ExtensionField<F>> {
 }
 
 impl<F: Field, EF: ExtensionField<F>> SymbolicAirBuilder<F, EF> {
-    /// A builder of this layout that has recorded nothing. Its selectors are made at once, so that they are there.
+    /// A builder with this layout that has recorded nothing. It makes its selectors at once, so that asking for one
+    /// never fails.
     pub fn new(alloc: Global, layout: AirLayout) -> Result<Self, AirError>
         ensures ready { IfOk result ⟦<SymbolicAirBuilder<F, EF> as AirBuilder>⟧.ready }
         ensures layout { IfOk result (λ b. layout_of b ≡ layout) }
@@ -60,7 +61,7 @@ impl<F: Field, EF: ExtensionField<F>> SymbolicAirBuilder<F, EF> {
         self.constraints.ext.as_slice()
     }
 
-    /// Where the base and the extension constraints recorded so far stand among all of them.
+    /// The constraint indices of the base and of the extension constraints recorded so far.
     pub fn constraint_layout(&self) -> Result<ConstraintLayout, AirError>
         ensures places { IfOk result (λ l. ArePlacesOf (recorded_by self.now).kinds
             l.base_indices.items l.ext_indices.items) }

@@ -1,4 +1,5 @@
-//! The symbolic builder as a builder: an expression is a number of the pool, and an assertion records it at its place.
+//! The symbolic builder as a builder: an expression is a number of the pool, and an assertion appends it to the list of
+//! its kind.
 ghost use Rattle.std.specs.Prelude.{◌≡◌, refl};
 ghost use Rattle.air_field.specs.Term.{leaf_term};
 ghost use Rattle.air_field.specs.Degree.{cached_weight};

@@ -1,4 +1,4 @@
-//! What a symbolic builder has recorded.
+//! The constraints that a symbolic builder has recorded.
 ghost use Rattle.std.specs.Prelude.{◌≡◌, [], IfOk, OnOk, OnErr, IfErr};
 ghost use Rattle.air_recording.specs.Folds.{ArePlacesOf};
 ghost use Rattle.air_recording.specs.Kinds.{is_of, places_where};
@@ -12,10 +12,10 @@ use air_field::{ExtensionField, Field};
 use air_symbolic::{BaseLeaf, ExprId, ExtLeaf};
 use std::alloc::Global;
 
-// How many base constraints there is room for from the first one on: those of a small AIR.
+// The initial capacity for base constraints: enough for a small AIR.
 const FIRST_CONSTRAINTS: usize = 16;
 
-/// The recorded expressions of each kind, in order, and the kind at each place of the whole.
+/// The recorded expressions of each kind, in order, and the kind of each constraint.
 #[derive(Drop)]
 pub(crate) struct Constraints<F: Field, EF: ExtensionField<F>> {
     pub(crate) base: Vec<ExprId<BaseLeaf<F>>>,
@@ -37,7 +37,7 @@ impl<F: Field, EF: ExtensionField<F>> Constraints<F, EF> {
         }
     }
 
-    /// Records a base expression at the next place.
+    /// Records a base expression as the next constraint.
     pub(crate) fn push_base(&mut self, x: ExprId<BaseLeaf<F>>) -> Result<(), AirError>
         ensures ok { OnOk result (lists_of self.new ≡ with_base (lists_of self.old) x) }
         ensures err { OnErr result (lists_of self.new ≡ lists_of self.old) }
@@ -52,7 +52,7 @@ impl<F: Field, EF: ExtensionField<F>> Constraints<F, EF> {
         Ok(())
     }
 
-    /// Records an extension expression at the next place.
+    /// Records an extension expression as the next constraint.
     pub(crate) fn push_ext(&mut self, x: ExprId<ExtLeaf<F, EF>>) -> Result<(), AirError>
         ensures ok { OnOk result (lists_of self.new ≡ with_ext (lists_of self.old) x) }
         ensures err { OnErr result (lists_of self.new ≡ lists_of self.old) }
@@ -64,7 +64,7 @@ impl<F: Field, EF: ExtensionField<F>> Constraints<F, EF> {
         Ok(())
     }
 
-    /// The places of each kind.
+    /// The constraint indices of each kind.
     pub(crate) fn layout(&self, alloc: Global) -> Result<ConstraintLayout, AirError>
         ensures places { IfOk result (λ l. ArePlacesOf self.now.kinds.items l.base_indices.items
             l.ext_indices.items) }
@@ -79,7 +79,7 @@ impl<F: Field, EF: ExtensionField<F>> Constraints<F, EF> {
     }
 }
 
-/// The places of one kind.
+/// The constraint indices of one kind.
 fn places_of(
     alloc: Global,
     kinds: &[ConstraintKind],

@@ -29,7 +29,7 @@ pub fn constraint_degree_from_poly_degree(poly_degree: usize, trace_len: usize) 
     (poly_degree - 1).div_ceil(trace_len.saturating_sub(1).max(1))
 }
 
-/// The greatest cached degree of these expressions, 0 of none.
+/// The greatest cached degree of these expressions; 0 for the empty list.
 fn greatest_cached<A: SymLeaf>(pool: &ExprPool<A>, numbers: &[ExprId<A>]) -> usize
     requires owed { FitsBase A.reads pool.now }
     requires here { All (λ i. i < size pool.now) numbers.now }
@@ -42,7 +42,7 @@ fn greatest_cached<A: SymLeaf>(pool: &ExprPool<A>, numbers: &[ExprId<A>]) -> usi
     greatest
 }
 
-/// The greatest cached degree of these base and extension expressions, 0 of none.
+/// The greatest cached degree of these base and extension expressions; 0 if both lists are empty.
 pub(crate) fn greatest_recorded<F: Field, EF: ExtensionField<F>>(
     pool: &ExprPool<ExtLeaf<F, EF>>,
     base: &[ExprId<BaseLeaf<F>>],
@@ -61,7 +61,7 @@ pub(crate) fn greatest_recorded<F: Field, EF: ExtensionField<F>>(
     base.max(ext)
 }
 
-/// The greatest of these numbers, 0 of none.
+/// The greatest of these numbers; 0 for the empty list.
 fn greatest_of(numbers: &[usize]) -> usize
     ensures value { result ≡ greatest_in numbers.now }
     ensures fits { result < 2 ^ 64 }
@@ -73,9 +73,9 @@ fn greatest_of(numbers: &[usize]) -> usize
     greatest
 }
 
-/// The greatest degree, by the leaves' weights, of all constraints as they are recorded, 0 of none. Each pool has one
-/// table for all of them. The numbers must be in the pool. It refuses a greatest degree past `usize`
-/// (`DegreeOverflow`), and want of memory.
+/// The greatest degree of all recorded constraints, by the leaves' weights; 0 if there are none. One table for each
+/// pool serves all of them. The numbers must be in the pool. `DegreeOverflow` means that the greatest degree exceeds
+/// `usize`.
 pub fn greatest_degree_of<F: Field, EF: ExtensionField<F>>(
     recorded: &Recorded<F, EF>,
     weight: LeafWeight<'_>,
@@ -93,8 +93,8 @@ pub fn greatest_degree_of<F: Field, EF: ExtensionField<F>>(
     Ok(greatest_of(&base.values).max(greatest_of(&ext.values)))
 }
 
-/// The degree inferred where the transition selector is linear: the constraint degree of the greatest polynomial degree
-/// over `trace_len` rows, and, where no column is periodic, no less than the greatest cached degree.
+/// The degree inferred for a linear transition selector: the constraint degree of the greatest polynomial degree over
+/// `trace_len` rows and, if no column is periodic, at least the greatest cached degree.
 fn trace_degree_of<F: Field, EF: ExtensionField<F>>(
     recorded: &Recorded<F, EF>,
     trace_len: usize,
@@ -116,13 +116,13 @@ fn trace_degree_of<F: Field, EF: ExtensionField<F>>(
     Ok(degree.max(base.max(ext)))
 }
 
-/// The degree inferred from constraints as they are recorded, in a domain with this weight for the transition selector:
-/// for weight 0 the constraint degree of their greatest polynomial degree over `trace_len` rows, and, where no column
-/// is periodic, no less than their greatest cached degree; for a weight from 1 their greatest degree by the cached
-/// weights with this one for the transition selector, whatever `trace_len` and `periods` are.
+/// The degree inferred from the recorded constraints, in a domain with this weight for the transition selector. For
+/// weight 0 it is the constraint degree of their greatest polynomial degree over `trace_len` rows and, if no column is
+/// periodic, at least their greatest cached degree. For a weight from 1 it is their greatest degree by the cached
+/// weights, with this one for the transition selector, whatever `trace_len` and `periods` are.
 ///
-/// The numbers must be in the pool. It refuses `DegreeOverflow` where their greatest degree, as the domain counts, passes
-/// `usize`, and want of memory.
+/// The numbers must be in the pool. `DegreeOverflow` means that their greatest degree, as the domain counts, exceeds
+/// `usize`.
 fn degree_of<F: Field, EF: ExtensionField<F>>(
     recorded: &Recorded<F, EF>,
     trace_len: usize,
@@ -152,8 +152,8 @@ fn lengths_of<F>(alloc: Global, columns: &[Vec<F>]) -> Result<Vec<usize>, RingEr
     Ok(periods)
 }
 
-/// The degree inferred from an AIR's constraints as they are recorded: that of [`degree_of`] for the lengths of the AIR's
-/// periodic columns. The numbers must be in the pool.
+/// The degree inferred from an AIR's recorded constraints: as [`degree_of`], for the lengths of the AIR's periodic
+/// columns, with the same errors. The numbers must be in the pool.
 pub fn infer_degree<F: Field, EF: ExtensionField<F>, A: BaseAir<F>>(
     alloc: Global,
     air: &A,
@@ -171,21 +171,21 @@ pub fn infer_degree<F: Field, EF: ExtensionField<F>, A: BaseAir<F>>(
     degree_of(recorded, trace_len, &periods, transition_weight)
 }
 
-/// The degree inferred from the base and extension constraints as they are recorded, for a trace of `trace_len` rows in
-/// a domain with the weight `transition_weight` for the transition selector.
+/// The degree inferred from the recorded base and extension constraints, for a trace of `trace_len` rows in a domain
+/// with the weight `transition_weight` for the transition selector.
 ///
-/// Weight 0 stands for a linear selector: the degree is the constraint degree of their greatest polynomial degree; and,
-/// where no column is periodic, no less than their greatest cached degree. For two rows and more each recorded
-/// polynomial has degree at most the answer times `trace_len` - 1, plus one, wherever the leaves' polynomials have the
-/// degrees of a trace of so many rows; for three and more no smaller number bounds the recorded terms' degrees so.
+/// Weight 0 means a linear selector: the degree is the constraint degree of the greatest polynomial degree and, if no
+/// column is periodic, at least the greatest cached degree. For two rows or more, each recorded polynomial has degree
+/// at most d (`trace_len` - 1) + 1, where d is the answer, if the leaves' polynomials have the degrees of a trace of
+/// `trace_len` rows. For three rows or more, no smaller d bounds the recorded terms' degrees so.
 ///
-/// For a weight from 1 the degree is their greatest by the cached weights with this one for the selector; a periodic
-/// column weighs 1, and `trace_len` plays no part. For two rows and more each recorded polynomial has degree at most
-/// the answer times `trace_len` - 1, wherever each leaf's polynomial has degree at most its weight times `trace_len` -
-/// 1; and no smaller number bounds the recorded terms' degrees.
+/// For a weight from 1, the degree is the greatest one by the cached weights, with this weight for the selector; a
+/// periodic column weighs 1, and `trace_len` plays no part. For two rows or more, each recorded polynomial has degree
+/// at most d (`trace_len` - 1), where d is the answer, if each leaf's polynomial has degree at most its weight times
+/// (`trace_len` - 1). No smaller d bounds the recorded terms' degrees.
 ///
-/// It refuses what the recording refuses, and a recorded degree past `usize`: a polynomial's for weight 0, one by these
-/// weights for a weight from 1.
+/// It fails as the recording does, and with `DegreeOverflow` if a recorded degree exceeds `usize`: a polynomial degree
+/// for weight 0, a degree by these weights for a weight from 1.
 pub fn get_max_constraint_degree_extension<
     F: Field,
     EF: ExtensionField<F>,
@@ -208,7 +208,7 @@ pub fn get_max_constraint_degree_extension<
     Ok(degree)
 }
 
-/// The same with the base field as its own extension.
+/// As [`get_max_constraint_degree_extension`], with the base field as its own extension.
 pub fn get_max_constraint_degree<F: SelfExtension, A: Air<SymbolicAirBuilder<F, F>>>(
     alloc: Global,
     air: &A,

@@ -53,8 +53,8 @@ impl<F: Field, EF: ExtensionField<F>> PermutationAirBuilder for SymbolicAirBuild
 
     type PermutationVar = SymbolicVariableExt<F, EF>;
 
-    /// The window of the permutation trace; where the layout has none its rows have no columns. It refuses for want of
-    /// memory alone.
+    /// The window of the permutation trace. If the layout has no permutation columns, its rows have none. Fails only
+    /// with `Memory`.
     fn permutation(&self) -> Result<TwoRows<SymbolicVariableExt<F, EF>>, AirError>
         ensures current { IfOk result (λ w. IsExtRowOf (ExtEntry.Permutation 0)
             (layout_of self.now).permutation_width (current_of w)) }
@@ -68,7 +68,7 @@ impl<F: Field, EF: ExtensionField<F>> PermutationAirBuilder for SymbolicAirBuild
         Ok(TwoRows::new(current, next))
     }
 
-    // No window is made, so that many columns cost no more than each by itself.
+    // Makes no window, so that reading many columns doesn't make one each time.
     fn permutation_variable(
         &self,
         offset: usize,

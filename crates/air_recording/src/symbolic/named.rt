@@ -1,4 +1,4 @@
-//! The symbolic builder discards labels: a name needs not be one that may be evaluated.
+//! The symbolic builder discards labels: a name needn't be one that may be evaluated.
 ghost use Rattle.std.specs.Prelude.{refl, [], ◌∷◌};
 ghost use Rattle.air_symbolic.specs.BaseLeaves.{base_reads};
 ghost use Rattle.air_symbolic.specs.ExtLeaves.{ext_reads};

@@ -1,4 +1,4 @@
-//! The constraints of an AIR as expressions.
+//! The constraints of an AIR, recorded as expressions.
 ghost use Rattle.std.specs.Prelude.{◌≡◌, ◌<◌, [], map, All, IfOk, IfErr, OnOk};
 ghost use Rattle.air_symbolic.specs.BaseLeaves.{base_reads};
 ghost use Rattle.air_symbolic.specs.ExtLeaves.{ext_reads};
@@ -44,7 +44,7 @@ impl<F: Field, EF: ExtensionField<F>> Model for Recorded<F, EF> {
 }
 
 impl<F: Field, EF: ExtensionField<F>> SymbolicAirBuilder<F, EF> {
-    /// What was recorded, handed over.
+    /// The recorded constraints.
     pub fn into_recorded(self) -> Recorded<F, EF>
         requires { FitsBase (ext_reads EF.basis) (pool_of self) }
         ensures pool { result.pool ≡ pool_of self }
@@ -62,8 +62,8 @@ impl<F: Field, EF: ExtensionField<F>> SymbolicAirBuilder<F, EF> {
     }
 }
 
-/// Has an AIR assert its constraints on a symbolic builder of this layout, which is compared with the AIR first. It
-/// refuses what [`get_all_symbolic_constraints`] refuses.
+/// Evaluates an AIR on a symbolic builder with this layout, which is first compared with the AIR. It fails as
+/// [`get_all_symbolic_constraints`] does.
 fn record<F: Field, EF: ExtensionField<F>, A: Air<SymbolicAirBuilder<F, EF>>>(
     alloc: Global,
     air: &A,
@@ -86,7 +86,7 @@ fn record<F: Field, EF: ExtensionField<F>, A: Air<SymbolicAirBuilder<F, EF>>>(
     layout.validate_against_air(air)?;
     let mut builder = SymbolicAirBuilder::new(alloc, layout)?;
     air.eval(&mut builder)?;
-    // The pool holds these degrees as `usize`, which a proof sees where they are read.
+    // The pool keeps these degrees as `usize`; reading them lets the proof use that.
     let _greatest = greatest_recorded(
         &builder.pool,
         &builder.constraints.base,
@@ -95,11 +95,12 @@ fn record<F: Field, EF: ExtensionField<F>, A: Air<SymbolicAirBuilder<F, EF>>>(
     Ok(builder)
 }
 
-/// Records the constraints of an AIR: for each declared place, in order, one expression of its kind, which means the
-/// term that is declared there. So it has the term's polynomial, and no greater degree by any weights of the leaves.
+/// Records the constraints of an AIR: for each declared constraint, in order, one expression of its kind that means the
+/// declared term. So the expression has the term's polynomial, and no greater degree by any weights of the leaves.
 ///
-/// It refuses a layout that differs from the AIR's width, public values or periodic columns, in this order, then an
-/// entry that the layout has not, a cached degree past `usize`, or want of memory.
+/// It fails first if the layout's main width, public values or periodic columns differ from the AIR's; the error names
+/// the first of these that differs. Then it fails with an error that names a missing entry, with `DegreeOverflow` if a
+/// cached degree exceeds `usize`, or with `Memory`.
 pub fn get_all_symbolic_constraints<
     F: Field,
     EF: ExtensionField<F>,
@@ -118,7 +119,7 @@ pub fn get_all_symbolic_constraints<
     Ok(builder.into_recorded())
 }
 
-/// What [`get_all_symbolic_constraints`] records, and where the constraints of each kind stand among all of them.
+/// Records as [`get_all_symbolic_constraints`] does, and answers also the constraint indices of each kind.
 pub fn record_with_layout<F: Field, EF: ExtensionField<F>, A: Air<SymbolicAirBuilder<F, EF>>>(
     alloc: Global,
     air: &A,
@@ -142,8 +143,8 @@ pub fn record_with_layout<F: Field, EF: ExtensionField<F>, A: Air<SymbolicAirBui
     Ok((builder.into_recorded(), places))
 }
 
-/// Records the base constraints of an AIR, as [`get_all_symbolic_constraints`] does; `ext` is left empty. The pool is one
-/// over the extension too.
+/// Records the base constraints of an AIR, as [`get_all_symbolic_constraints`] does; `ext` is left empty. The pool is
+/// still one over the extension.
 pub fn get_symbolic_constraints<F: SelfExtension, A: Air<SymbolicAirBuilder<F, F>>>(
     alloc: Global,
     air: &A,
@@ -180,7 +181,8 @@ pub fn get_symbolic_constraints_extension<
     Ok(Recorded { pool, base, ext })
 }
 
-/// Where the base and the extension constraints of an AIR stand among all of them. It refuses what a recording refuses.
+/// The constraint indices of the base and of the extension constraints of an AIR. It fails as
+/// [`get_all_symbolic_constraints`] does.
 pub fn get_constraint_layout<F: Field, EF: ExtensionField<F>, A: Air<SymbolicAirBuilder<F, EF>>>(
     alloc: Global,
     air: &A,

@@ -10,7 +10,7 @@ use air_field::{ExtensionField, Field};
 use air_symbolic::{BaseEntry, ExtEntry, SymbolicVariable, SymbolicVariableExt};
 use std::alloc::Global;
 
-/// The variables of an entry, one a column.
+/// The variables of an entry, one for each column.
 pub(crate) fn variables_of<F>(
     alloc: Global,
     entry: BaseEntry,
@@ -26,7 +26,7 @@ pub(crate) fn variables_of<F>(
     Ok(row)
 }
 
-/// The extension variables of an entry, one a column.
+/// The extension variables of an entry, one for each column.
 pub(crate) fn ext_variables_of<F, EF>(
     alloc: Global,
     entry: ExtEntry,

@@ -27,7 +27,7 @@ enumerate_from-append n (x ∷ xs) ys =
     let e : (n + 1) + length xs ≡ n + length (x ∷ xs) = omega arith in
     ap (λ l. (n, x) ∷ l) (enumerate_from-append (n + 1) xs ys ∙ ap (λ m. enumerate_from (n + 1) xs ++ enumerate_from m ys) e)
 
--- an AIR refuses for want of memory, or what its builder refuses
+-- an AIR refuses with its own `Memory`, or as its builder does
 pub refused_anyway : {F E : Type 0} {zero : RowData F E → Assertion F → Bool} {d : RowData F E} {n : ℕ}
     {ts : List (Assertion F)} (e : AirError)
     → (e ≡ Memory) ⊎ RefusedAtRow zero d n e ts → Refused (RowMissing d) (λ _. ⊥) (IsFull n) e ts
@@ -136,11 +136,11 @@ module _ {F E : Type 0} (zero : RowData F E → Assertion F → Bool) where
         (failures_is : (a : S) (q : R) → failures (with_ring a q) ≡ failures a)
         (ring_is : (a : S) (q : R) → ring_of (with_ring a q) ≡ q)
         {means : V → Term F → Type 0} where
-      -- it keeps the laws
+      -- the debug builder keeps the laws of builders
       pub debug_laws : BuilderLaws (row_view data_of shape reads_as grew refuses ring_of with_ring means)
       debug_laws = row_laws data_of shape reads_as grew refuses ring_of with_ring (λ a q. unchanged a (with_ring a q) (data_is a q) (count_is a q) (failures_is a q)) ring_is (grows reads_as)
 
-      -- and those of builders over an extension, for its ring over the extension
+      -- the laws of builders over an extension, for its ring over the extension
       pub debug_extension_laws : {B U : Type 0} (base_of : S → B) (base_means : U → Term F → Type 0) {with_base : S → B → S}
           → ExtensionRingLaws (row_view data_of shape reads_as grew refuses base_of with_base base_means)
           (row_over data_of shape reads_as grew refuses ring_of with_ring base_means means)

@@ -42,12 +42,12 @@ module _ {F E : Type 0} (zero : RowData F E → Assertion F → Bool) where
   refused_of_log d k holds s z _ h = absurd h
 
   module _ (d f : RowData F E) (m n : ℕ) (fs gs : List ConstraintFailure) (says : Option (List ℕ) → Type 0) (same : f ≡ d) where
-    -- what was logged of one assertion is growth by it
+    -- a logged assertion is growth by it
     logged_grew : (holds : Bool) → LogsOne d.row m n says holds fs gs → (s : Assertion F) → zero d s ≡ holds → GrewAtRow zero d f m n fs gs (s ∷ [])
     logged_grew true h s z = asserted_zero zero d f m n fs gs s same h.0 z h.1
     logged_grew false h s z = asserted_other zero d f m n fs gs s same h.0 h.1.failure z h.1.pushed h.1.at
 
-    -- and growth under a label that the name may display
+    -- a logged assertion is growth under a label that the name may display
     logged_label : (holds : Bool) → LogsOne d.row m n says holds fs gs
         → (label : Label)
         × (IsSaid says label
@@ -91,7 +91,7 @@ module _ {F E : Type 0} (zero : RowData F E → Assertion F → Bool) where
     places = refl;
   }
 
-  -- what was logged of an assertion says what became of it, and of its label
+  -- the log of an assertion determines its growth and its label
   module _ {S I : Type 0} (data_of : S → RowData F E) (count : S → ℕ) (failures : S → List ConstraintFailure)
       {asserts : S → I → Assertion F → Type 0} {a b : S} {x : I} (says : Option (List ℕ) → Type 0) (holds : Bool)
       (same : data_of b ≡ data_of a) where

@@ -1,4 +1,4 @@
--- What a debug builder's expressions mean: the values of terms at its row.
+-- The meaning of a debug builder's expressions: the values of terms at its row.
 use Rattle.std.specs.Prelude.{◌≡◌, Bool, refl}
 use Rattle.std.proofs.Common.{sym, ◌∙◌, ap, ap₂}
 use Rattle.air_field.specs.Ring.{CommRing, minus, AlgebraOver, self_algebra}
@@ -14,7 +14,7 @@ use Rattle.air_builder.specs.Batches.{AssertsOf}
 use Rattle.air_report.specs.Debug.{RowData, row_leaves, ext_row_leaves, row_reads_as, is_zero_at}
 
 module _ {F E : Type 0} (r : CommRing F) (a : AlgebraOver F E) (basis : Basis F E) where
-  -- a base term whose leaves' values are put in has the term's value
+  -- a base term with its leaves replaced by their values has the term's value
   base_value : (w : Leaf → F) (d : RowData F E) (t : Term F)
       → IsBase (with_leaves (row_reads_as r a basis d) t)
       → value (self_algebra r) (row_leaves r d) t ≡ value (self_algebra r) w (with_leaves (row_reads_as r a basis d) t)
@@ -35,7 +35,7 @@ module _ {F E : Type 0} (r : CommRing F) (a : AlgebraOver F E) (basis : Basis F 
   base_value w d (neg_term t) h = ap r.neg (base_value w d t h)
   base_value w d (mul_term t u) h = ap₂ r.mul (base_value w d t h.0) (base_value w d u h.1)
 
-  -- what stands at a leaf has over the extension the value of the assignment
+  -- over the extension, a leaf's constant has the leaf's value in the assignment
   leaf_reads_as : ((x : E) → a.extend (basis.coefficients x) ≡ x) → (w : Leaf → E) (d : RowData F E) (l : Leaf) → ext_row_leaves r a d l ≡ value a w (row_reads_as r a basis d l)
   leaf_reads_as k w d (preprocessed o i) = refl
   leaf_reads_as k w d (main o i) = refl
@@ -52,20 +52,20 @@ module _ {F E : Type 0} (r : CommRing F) (a : AlgebraOver F E) (basis : Basis F 
   ext_value k w d t = ap (λ s. value a s t) (λ i l. leaf_reads_as k w d l i) ∙ sym (value-leaves a w (row_reads_as r a basis d) t)
 
   module _ (eq : F → F → Bool) (ext_eq : E → E → Bool) where
-    -- a base expression that means t is zero where t is at the row
+    -- a base expression that means t is zero exactly if t is zero at the row
     pub base_is_zero : (d : RowData F E) (v : F) (t : Term F)
         → IsBase (with_leaves (row_reads_as r a basis d) t)
         × (closed_value r (with_leaves (row_reads_as r a basis d) t) ≡ v)
         → is_zero_at r a eq ext_eq d (Base t) ≡ eq v r.zero
     base_is_zero d v t m = ap (λ x. eq x r.zero) (base_value (λ _. r.zero) d t m.0 ∙ m.1)
 
-    -- the same over the extension
+    -- an extension expression that means t is zero exactly if t is zero at the row
     pub ext_is_zero : ((x : E) → a.extend (basis.coefficients x) ≡ x) → (d : RowData F E) (v : E) (t : Term F)
         → closed_value_in a (with_leaves (row_reads_as r a basis d) t) ≡ v
         → is_zero_at r a eq ext_eq d (Extension t) ≡ ext_eq v a.ring.zero
     ext_is_zero k d v t m = ap (λ x. ext_eq x a.ring.zero) (ext_value k (λ _. a.ring.zero) d t ∙ m)
 
-    -- So the test of an expression for zero is that of the assertion that it is zero.
+    -- So testing an expression for zero is testing the assertion that it is zero.
     pub base_tested : (d : RowData F E) (v : F) (holds : Bool) → holds ≡ eq v r.zero → (s : Assertion F)
         → AssertsOf Base (λ e x t. IsBase (with_leaves (row_reads_as r a basis e) t) × (closed_value r (with_leaves (row_reads_as r a basis e) t) ≡ x)) (λ t. t) d v s
         → is_zero_at r a eq ext_eq d s ≡ holds

@@ -1,4 +1,4 @@
--- Checks of an AIR that has nothing beside its main trace.
+-- Checks of an AIR with only a main trace and public values.
 use Rattle.std.specs.Prelude.{◌≡◌, ℕ, ◌-◌, ◌<◌, List, [], length, Bool, Option, None, Some, slice_get, refl}
 use Rattle.std.specs.Global.{Global}
 use Rattle.std.proofs.Common.{inl, inr, subst, sym, ap, ◌∙◌, arith}
@@ -22,14 +22,14 @@ left_of-none : {X : Type 0} (cap : Option ℕ) (n : ℕ) → take_within_cap {X 
 left_of-none None n = refl
 left_of-none (Some cap) n = take_all (cap - n) [] (omega arith)
 
--- no periodic column and no table is at fault
+-- without periodic columns and a preprocessed trace no shape is at fault
 fits_shapes : (T A : Type 0) (h : ℕ) (e : AirError) → IsShapeFault {T = T} {A = A} [] h None e → ⊥
 fits_shapes T A h (PreprocessedHeight p m) f = let none : None ≡ Some p = f.0 in cc
 fits_shapes T A h (PeriodNotPowerOfTwo i n) f = let lt : i < 0 = f.1 in absurd (omega arith)
 fits_shapes T A h (PeriodDoesNotDivide i n k) f = let lt : i < 0 = f.1 in absurd (omega arith)
 fits_shapes T A h _ f = f
 
--- no cell is at fault
+-- without boundary values none is at fault
 fits_cells : {F : Type 0} (main : Grid F) (public : List F) (e : AirError) → IsCellFault main public [] e → ⊥
 fits_cells main public (Boundary b) f = let lt : f.place < 0 = f.within in absurd (omega arith)
 fits_cells main public EmptyTrace f = f.1 refl
@@ -41,7 +41,7 @@ none_listed cap n at x e =
     cc
 
 module _ {F : Type 0} (r : CommRing F) (eq : F → F → Bool) (ts : List (Assertion F)) (width count : ℕ) (main : Grid F) (public : List F) (cap : Option ℕ) where
-  -- it is refused as its rows are
+  -- the check is refused as its rows are
   pub plain_refusal : (e : AirError) → CheckRefuses r eq (instance (plain_declaration ts width count) main public) cap e
       → Refused (IsMissing (trace_shape (plain_trace main public))) (λ _. ⊥) (IsFull 0) e ts
   plain_refusal e (inl h) = absurd (fits_shapes F Global (length main.rows) e h)

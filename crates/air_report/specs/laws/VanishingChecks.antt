@@ -1,4 +1,4 @@
--- Where a check lists nothing, every declared term vanishes at each row.
+-- If a check finds no failure, every declared term vanishes at each row.
 use Rattle.std.specs.Prelude.{◌≡◌, ℕ, ◌<◌, List, [], length, map, Bool, None, ◌↔◌, true}
 use Rattle.std.proofs.Common.{sym, ◌∙◌, ap, inl, inr}
 use Rattle.air_field.specs.Ring.{CommRing}
@@ -14,17 +14,17 @@ use Rattle.air_report.specs.declared.checks.report.ConstraintReport.{ConstraintR
 use Rattle.air_report.specs.laws.VanishingReports.{all_vanish, nothing_first}
 
 module _ {F : Type 0} (R : CommRing F) (eq : F → F → Bool) (decides : (x y : F) → (eq x y ≡ true) ↔ (x ≡ y)) where
-  -- a trace that a check up to the first fault lets pass
+  -- if `check_constraints` is Ok, every declared term vanishes at each row
   pub kept_vanish : (g : Instance F) (row : ℕ) → IsSatisfied R eq g → row < row_count g → AllVanish R (row_assignment R (instance_trace g) row) g.air.constraints
   kept_vanish g row kept lt = all_vanish R eq decides (instance_trace g) g.air.constraints (row_count g) kept.none row lt
 
-  -- the same of an AIR with nothing beside its trace
+  -- as `kept_vanish`, for an AIR with only a main trace and public values
   pub plain_vanish : (ts : List (Assertion F)) (width values : ℕ) (main : Grid F) (public : List F) (row : ℕ)
       → IsSatisfied R eq (instance (plain_declaration ts width values) main public) → row < length main.rows
       → AllVanish R (row_assignment R (plain_trace main public) row) ts
   plain_vanish ts width values main public row kept lt = kept_vanish (instance (plain_declaration ts width values) main public) row kept lt
 
-  -- a check without a cap that lists nothing
+  -- if `check_all_constraints` without a cap lists nothing, every declared term vanishes at each row
   pub report_vanish : (g : Instance F) (report : ConstraintReport) (row : ℕ) → IsReport R eq g None report → report.failures.items ≡ [] → row < row_count g
       → AllVanish R (row_assignment R (instance_trace g) row) g.air.constraints
   report_vanish g report row h none lt =

@@ -1,4 +1,4 @@
--- A report lists nothing exactly where every term vanishes at each row.
+-- A report lists nothing exactly if every term vanishes at each row.
 use Rattle.std.specs.Prelude.{⊤, ◌↔◌}
 use Rattle.std.proofs.Common.{◌≡◌, ◌<◌, ◌≤◌, ℕ, zero, suc, ◌+◌, List, [], ◌∷◌, ◌++◌, map, Bool, true, false, not, cond, refl, sym, ◌∙◌, ap, subst, inl, inr, arith}
 use Rattle.std.specs.List.{filter, flat_map, range_with_len, enumerate_from}
@@ -12,12 +12,12 @@ use Rattle.air_builder.specs.Vanishing.{AllVanish}
 never_empty : {A : Type 0} (x : A) (xs : List A) → x ∷ xs ≡ [] → ⊥
 never_empty x xs e = cc
 
--- of two lists that make an empty one, both are empty
+-- if two lists append to the empty list, both are empty
 pub nothing_first : {A : Type 0} (xs ys : List A) → xs ++ ys ≡ [] → (xs ≡ []) × (ys ≡ [])
 nothing_first [] ys e = (refl, e)
 nothing_first (x ∷ xs) ys e = absurd (never_empty x (xs ++ ys) e)
 
--- what an empty list is mapped from
+-- if a list maps to the empty list, it is empty
 pub empty_map : {A B : Type 0} (f : A → B) (xs : List A) → map f xs ≡ [] → xs ≡ []
 empty_map f [] e = refl
 empty_map f (x ∷ xs) e = absurd (never (f x) (map f xs) e)
@@ -25,7 +25,7 @@ empty_map f (x ∷ xs) e = absurd (never (f x) (map f xs) e)
     never : {B : Type 0} (x : B) (xs : List B) → x ∷ xs ≡ [] → ⊥
     never x xs e = cc
 
--- none passes the test
+-- no element passes the test
 Fails : {A : Type 0} → (A → Bool) → List A → Type 0
 Fails f [] = ⊤
 Fails f (x ∷ xs) = (f x ≡ false) × Fails f xs
@@ -80,7 +80,7 @@ module _ {F : Type 0} (r : CommRing F) (eq : F → F → Bool) (decides : (a b :
         | inr l ↦ let e : a ≡ row = omega arith in subst (λ i. AllVanish r (row_assignment r trace i) ts) e (row_vanishes a 0 ts parts.0)
       ]
 
-  -- the report on the first h rows lists nothing, so that each term vanishes at each of them
+  -- if the report on the first h rows lists nothing, each term vanishes at each of them
   pub all_vanish : (ts : List (Assertion F)) (h : ℕ) → report_of r eq trace ts h ≡ [] → (row : ℕ) → row < h → AllVanish r (row_assignment r trace row) ts
   all_vanish ts h e row l =
       rows_vanish ts 0 h (none_passes (is_nonzero r eq trace) (all_places h ts) (empty_map place _ e)) row (omega arith) (omega arith)
@@ -103,7 +103,7 @@ module _ {F : Type 0} (r : CommRing F) (eq : F → F → Bool) (decides : (a b :
       (row_fails a 0 ts (h a (omega arith) (omega arith)))
       (rows_fail ts (a + 1) n (λ row low high. h row (omega arith) (omega arith)))
 
-  -- each term vanishes at each row, so that the report lists nothing
+  -- if each term vanishes at each row, the report lists nothing
   pub none_reported : (ts : List (Assertion F)) (h : ℕ) → ((row : ℕ) → row < h → AllVanish r (row_assignment r trace row) ts) → report_of r eq trace ts h ≡ []
   none_reported ts h vanish =
       ap (map place) (filtered (is_nonzero r eq trace) (all_places h ts) (rows_fail ts 0 h (λ row low high. vanish row (omega arith))))

@@ -1,4 +1,4 @@
-//! Boundary cells of a whole trace.
+//! Boundary values of a whole trace.
 ghost use Rattle.std.specs.Prelude.{◌≡◌, ◌+◌, ◌<◌, ◌≤◌, ◌^◌, ◌⊎◌, Some, IfOk, IfErr, OnOk, MatchOption, length};
 ghost use Rattle.air_report.specs.Cells.{differs, differing_cells, take_within_cap, ListsCells, IsListedPast, cell_label, label_text, CellsFit, IsCellFault, AgreeBelow, IsFirstDiffering};
 ghost use Rattle.air_report.specs.Report.{failure_place};
@@ -10,7 +10,8 @@ use air_core::boundary::validate;
 use air_field::{Field, RowMajorMatrix};
 use std::alloc::Global;
 
-/// Checks that the cells are cells of the trace, each once, and hold public values that are there.
+/// Checks that the boundary values are cells of the trace, each listed once, that their public values exist, and that
+/// the trace has rows for them.
 pub(crate) fn check_cells<F: Field>(
     cells: &[BoundaryPublic],
     main: &RowMajorMatrix<F>,
@@ -26,7 +27,7 @@ pub(crate) fn check_cells<F: Field>(
     Ok(())
 }
 
-/// Whether the trace doesn't hold the cell's public value there.
+/// Whether the boundary value differs from its public value.
 fn differs<F: Field>(cell: &BoundaryPublic, main: &RowMajorMatrix<F>, public_values: &[F]) -> bool
     requires rows { 0 < length main.now.rows }
     requires column { cell.now.column < main.now.width }
@@ -37,7 +38,7 @@ fn differs<F: Field>(cell: &BoundaryPublic, main: &RowMajorMatrix<F>, public_val
     !(row[cell.column] == public_values[cell.public_value])
 }
 
-/// The first cell that differs from its public value.
+/// The index of the first boundary value that differs from its public value.
 pub(crate) fn first_mismatch<F: Field>(
     cells: &[BoundaryPublic],
     main: &RowMajorMatrix<F>,
@@ -55,7 +56,8 @@ pub(crate) fn first_mismatch<F: Field>(
     None
 }
 
-/// The failure of a cell: its constraint is its place after `count` constraints.
+/// The failure of a boundary value. Its constraint index is `count` plus its index in the list; `CountOverflow` means
+/// that this exceeds `usize`.
 fn cell_failure(
     alloc: Global,
     cell: &BoundaryPublic,
@@ -83,7 +85,8 @@ fn cell_failure(
     })
 }
 
-/// Adds the failures of the cells that differ, in order, as many as the cap leaves.
+/// Adds the failures of the boundary values that differ, in order, as many as the cap leaves. `CountOverflow` means
+/// that a listed one's constraint index exceeds `usize`.
 pub(crate) fn list_cells<F: Field>(
     alloc: Global,
     cells: &[BoundaryPublic],

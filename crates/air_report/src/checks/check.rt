@@ -18,7 +18,7 @@ use air_core::periodic::fill_periodic_row;
 use air_field::{Field, RowMajorMatrix, RowMajorMatrixView, SelfExtension, ViewPair};
 use std::alloc::Global;
 
-/// One where it holds, else zero.
+/// One if `on`, else zero.
 #[inline(always)]
 fn selector<F: Field>(on: bool) -> F
     ensures { result ≡ selector F.ring on }
@@ -39,7 +39,7 @@ fn selectors_at<F: Field>(row: usize, height: usize) -> Selectors<F>
     }
 }
 
-/// A row that is there.
+/// A row of the trace; it must be in range.
 #[inline(always)]
 pub(crate) fn main_row<'a, F: Field>(main: &'a RowMajorMatrix<F>, row: usize) -> &'a [F]
     requires { row < length main.now.rows }
@@ -52,7 +52,7 @@ pub(crate) fn main_row<'a, F: Field>(main: &'a RowMajorMatrix<F>, row: usize) ->
     }
 }
 
-/// The views of a row and of the one after it around the end.
+/// The views of a row and of the next one around the end.
 #[inline(always)]
 fn row_pair<'a, F: Field>(main: &'a RowMajorMatrix<F>, row: usize) -> ViewPair<'a, F>
     requires { row < length main.now.rows }
@@ -69,7 +69,8 @@ fn row_pair<'a, F: Field>(main: &'a RowMajorMatrix<F>, row: usize) -> ViewPair<'
     )
 }
 
-/// The views of a table's row and of the one after it around the end; without a table they have no columns.
+/// The views of a row of the preprocessed trace and of the next one around the end; without a preprocessed trace they
+/// have no columns.
 #[inline(always)]
 fn table_pair<'a, F: Field>(table: Option<&'a RowMajorMatrix<F>>, row: usize) -> ViewPair<'a, F>
     requires { IfSome table (λ t. row < length t.now.rows) }
@@ -89,14 +90,14 @@ fn table_pair<'a, F: Field>(table: Option<&'a RowMajorMatrix<F>>, row: usize) ->
     }
 }
 
-/// The rows checked so far: every failure, and how many constraints one row asserts.
+/// The outcome of the rows: every failure, and the number of constraints of a row, 0 if no row ran.
 #[derive(Drop)]
 pub(crate) struct RowOutcome {
     pub(crate) failures: Vec<ConstraintFailure>,
     pub(crate) constraints: usize,
 }
 
-/// Ends a check: takes the failures and the last row's counter out of the builder.
+/// Ends a check: takes the failures and the last row's counter from the builder.
 fn outcome_of<F: SelfExtension>(builder: DebugConstraintBuilder<'_, F, F>) -> RowOutcome
     ensures failures { result.failures ≡ builder.entry.failures }
     ensures constraints { result.constraints ≡ builder.entry.constraint_index }
@@ -107,8 +108,9 @@ fn outcome_of<F: SelfExtension>(builder: DebugConstraintBuilder<'_, F, F>) -> Ro
     }
 }
 
-/// Moves the builder to a row and evaluates an AIR there: what is not zero comes to its failures. The builder's list of
-/// periodic values is filled again, so that a row of a whole trace takes no memory for it.
+/// Moves the builder to a row and evaluates an AIR there; nonzero constraints are added to its failures. The builder's
+/// list of periodic values is refilled, so that a row doesn't allocate one. Also fails with a missing entry or
+/// `CountOverflow`.
 pub(crate) fn check_row<'a, F: SelfExtension + 'static, A: Air<DebugConstraintBuilder<'a, F, F>>>(
     air: &'a A,
     main: &'a RowMajorMatrix<F>,
@@ -138,7 +140,7 @@ pub(crate) fn check_row<'a, F: SelfExtension + 'static, A: Air<DebugConstraintBu
     air.eval(builder)
 }
 
-/// Whether so many failures reach the cap.
+/// Whether this number of failures reaches the cap.
 #[inline(always)]
 pub(crate) fn is_reached(cap: Option<usize>, failures: usize) -> bool
     ensures { IsTrue result ↔ IsReached cap failures }
@@ -149,8 +151,8 @@ pub(crate) fn is_reached(cap: Option<usize>, failures: usize) -> bool
     }
 }
 
-/// Evaluates an AIR on the rows of a trace while the failures so far are fewer than the cap: one builder goes from row
-/// to row, and keeps them.
+/// Evaluates an AIR on the rows of a trace while there are fewer failures than the cap; one builder moves from row to
+/// row and keeps the failures. If a row runs, also fails with a missing entry or `CountOverflow`.
 fn check_rows<'a, F: SelfExtension + 'static, A: Air<DebugConstraintBuilder<'a, F, F>>>(
     alloc: Global,
     air: &'a A,
@@ -175,15 +177,15 @@ fn check_rows<'a, F: SelfExtension + 'static, A: Air<DebugConstraintBuilder<'a, 
     Ok(outcome_of(builder))
 }
 
-/// Checks the shapes of the preprocessed table and of the periodic columns; evaluates an AIR on the rows of a trace,
-/// each paired with the one after it around the end, while the failures so far are fewer than `max_failures`; and then
-/// compares the boundary cells with their public values. It reports each constraint that is not zero, rows ascending
-/// and in each row the places ascending, and then the cells that differ, in order, as many as the cap leaves.
+/// Checks the shapes of the preprocessed trace and of the periodic columns. Then evaluates the AIR on the rows of the
+/// trace, each paired with the next one around the end, while there are fewer failures than `max_failures`. Then
+/// compares the boundary values with their public values. The report lists each constraint that isn't zero, by row and
+/// then by constraint index, and then the boundary values that differ, in order, as many as the cap leaves.
 ///
-/// It refuses the first shape that doesn't fit; then, where a row runs, an entry that a constraint names and the trace
-/// has not, and a count past `usize`; then the first cell that doesn't fit the trace, and cells of a trace without
-/// rows; then a listed cell whose place passes `usize`. Want of memory is refused too, once the shapes fit. The trace's
-/// width is not compared with that of the AIR.
+/// Errors, in this order: the first shape that doesn't fit; if a row runs, a missing entry that a constraint names, or
+/// a count past `usize`; the first boundary value that doesn't fit the trace, or boundary values of a trace without
+/// rows; a listed boundary value whose constraint index exceeds `usize`. `Memory` occurs only if the shapes fit. The
+/// trace's width isn't compared with the AIR's.
 pub fn check_all_constraints<
     'a,
     F: SelfExtension + 'static,

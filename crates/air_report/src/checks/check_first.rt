@@ -14,10 +14,10 @@ use air_field::{RowMajorMatrix, SelfExtension};
 use std::alloc::Global;
 use thiserror::Error;
 
-/// Why a trace doesn't keep the constraints, or wasn't checked to its end.
+/// Why a trace doesn't satisfy its constraints, or why the check stopped.
 #[derive(Debug, Drop, Error)]
 pub enum CheckError {
-    /// A boundary cell doesn't hold its public value: the first such, by its place in the list, and its row.
+    /// A boundary value differs from its public value: the index of the first such in the AIR's list, and its row.
     #[error("boundary-IO cell {index} does not hold its public value on row {row}")]
     BoundaryMismatch {
         row: usize,
@@ -29,7 +29,7 @@ pub enum CheckError {
         row: usize,
         failures: Vec<ConstraintFailure>,
     },
-    /// The check gave up before its end.
+    /// The check stopped before its end.
     #[error(transparent)]
     Refused(AirError),
 }
@@ -42,16 +42,16 @@ impl From<AirError> for CheckError {
     }
 }
 
-/// Checks the shapes of the preprocessed table and of the periodic columns, compares the boundary cells with their
-/// public values, and evaluates an AIR on the rows of a trace, each paired with the one after it around the end, up to
-/// the first row with a constraint that is not zero.
+/// Checks the shapes of the preprocessed trace and of the periodic columns, compares the boundary values with their
+/// public values, and evaluates the AIR on the rows of the trace, each paired with the next one around the end, up to
+/// the first row with a constraint that isn't zero.
 ///
-/// It is Ok only if no cell differs and no constraint fails at any row. The error is the first fault in this order: a
-/// shape that doesn't fit, a boundary cell that doesn't fit the trace, or cells of a trace without rows (all these are
-/// `Refused`); a cell that differs (`BoundaryMismatch`); the first row that fails, with all its failures (`RowFailed`),
-/// or that is refused for an entry which a constraint names and the trace has not, or for a count past `usize`. So
-/// cells come before rows here, where `check_all_constraints` has them behind the rows. Want of memory is refused only
-/// where the shapes fit and each cell holds its public value.
+/// It is Ok only if no boundary value differs and no constraint fails at any row. The error is the first fault in this
+/// order: a shape that doesn't fit, a boundary value that doesn't fit the trace, or boundary values of a trace without
+/// rows (all these are `Refused`); a boundary value that differs (`BoundaryMismatch`); the first row that fails, with
+/// all its failures (`RowFailed`), or that is refused for a missing entry that a constraint names or for a count past
+/// `usize`. So boundary values come before the rows here, and after them in `check_all_constraints`. `Memory` occurs
+/// only if the shapes fit and each boundary value equals its public value.
 pub fn check_constraints<'a, F: SelfExtension + 'static, A: Air<DebugConstraintBuilder<'a, F, F>>>(
     alloc: Global,
     air: &'a A,

@@ -1,4 +1,4 @@
-//! Which preprocessed tables and periodic columns fit a trace.
+//! Which preprocessed traces and periodic columns fit a trace.
 ghost use Rattle.std.specs.Prelude.{◌≡◌, ◌↔◌, IsTrue};
 ghost use Rattle.std.specs.Option.{option_copied};
 ghost use Rattle.std.specs.Int.{IsPowerOfTwo};
@@ -14,7 +14,7 @@ fn is_power(n: usize) -> bool
     n.is_power_of_two()
 }
 
-/// The number of rows, if there is a table.
+/// The number of rows of the preprocessed trace, if there is one.
 pub(crate) fn table_height<F: Copy>(table: Option<&RowMajorMatrix<F>>) -> Option<usize>
     ensures { result ≡ table_height (option_copied table.entry) }
 {
@@ -24,7 +24,8 @@ pub(crate) fn table_height<F: Copy>(table: Option<&RowMajorMatrix<F>>) -> Option
     }
 }
 
-/// Checks the heights: of the preprocessed table, then each column's period.
+/// Checks the shapes and names the first that doesn't fit: the preprocessed trace must have the trace's height, and
+/// then each column's period must be a power of two that divides it.
 pub(crate) fn check_shapes<T: Copy>(
     columns: &[Vec<T>],
     height: usize,

@@ -1,4 +1,4 @@
-//! The debug builder: it holds the values at one row, and evaluates what is asserted there.
+//! The debug builder: it holds the values of one row, and evaluates assertions there.
 ghost use Rattle.std.specs.Prelude.{◌≡◌, ◌≢◌, ◌↔◌, IsTrue, [], None, Some, IfOk, IfErr, IfSome, string_bytes};
 ghost use Rattle.air_report.specs.DebugRow.{IsAtRow, StandsAt, counted_from, failures_of};
 ghost use Rattle.air_report.specs.FailureTexts.{failures_text};
@@ -9,8 +9,8 @@ use air_builder::{AirError, RowWindow};
 use air_field::{ExtFieldRing, ExtensionField, Field, FieldRing, RowMajorMatrixView, ViewPair};
 use std::alloc::Global;
 
-/// Evaluates constraints on one row: base constraints in `F`, the others in its extension `EF`. It borrows the rows and
-/// the values; the periodic row alone is its own.
+/// Evaluates constraints on one row: base constraints in `F`, extension constraints in `EF`. It borrows the rows and
+/// the values, and owns only the periodic row.
 #[derive(Drop)]
 pub struct DebugConstraintBuilder<'a, F: Field, EF: ExtensionField<F>> {
     pub(crate) row: Row<'a, F>,
@@ -25,8 +25,8 @@ pub struct DebugConstraintBuilder<'a, F: Field, EF: ExtensionField<F>> {
 }
 
 impl<'a, F: Field + ExtensionField<F>> DebugConstraintBuilder<'a, F, F> {
-    /// A builder at the row of this index, without permutation data: the pairs hold that row and the one after it. It
-    /// takes no memory.
+    /// A builder at the row of this index, without permutation data: the pairs hold that row and the next one. Never
+    /// allocates.
     pub fn new(
         alloc: Global,
         row_index: usize,
@@ -52,7 +52,7 @@ impl<'a, F: Field + ExtensionField<F>> DebugConstraintBuilder<'a, F, F> {
 }
 
 impl<'a, F: Field, EF: ExtensionField<F>> DebugConstraintBuilder<'a, F, EF> {
-    /// A builder that stands at no row yet: it has no columns and no failures. It takes no memory.
+    /// A builder that isn't at a row yet: it has no columns and no failures. Never allocates.
     #[inline(always)]
     pub(crate) fn at_no_row(alloc: Global) -> Self
         ensures counter { result.constraint_index ≡ 0 }
@@ -82,8 +82,8 @@ impl<'a, F: Field, EF: ExtensionField<F>> DebugConstraintBuilder<'a, F, EF> {
         }
     }
 
-    /// Moves to a row, where it has no permutation data and has counted nothing. The failures stay, and the values of
-    /// the periodic columns, which are those of this row already.
+    /// Moves to a row, without permutation data, and resets the counter. The failures stay, and so do the periodic
+    /// values, which must already be those of the new row.
     #[inline(always)]
     pub(crate) fn move_to(&mut self, row: Row<'a, F>)
         ensures { StandsAt row.entry self.old.periodic_row self.old.failures.items self.new }
@@ -106,7 +106,7 @@ impl<'a, F: Field, EF: ExtensionField<F>> DebugConstraintBuilder<'a, F, EF> {
     }
 
     /// A builder at the row of this index, with the two rows of the permutation trace, the challenges, and the values
-    /// that the permutation argument exposes. It takes no memory.
+    /// that the permutation argument exposes. Never allocates.
     pub fn new_with_permutation(
         alloc: Global,
         row_index: usize,
@@ -139,7 +139,7 @@ impl<'a, F: Field, EF: ExtensionField<F>> DebugConstraintBuilder<'a, F, EF> {
         }
     }
 
-    /// The builder with its counter at a number, as one that goes on where another stopped.
+    /// The builder with its counter set to a number, for example to continue where another builder stopped.
     pub fn counting_from(self, count: usize) -> Self
         ensures { result ≡ counted_from self.entry count }
     {
@@ -155,15 +155,15 @@ impl<'a, F: Field, EF: ExtensionField<F>> DebugConstraintBuilder<'a, F, EF> {
         !self.failures.is_empty()
     }
 
-    /// The assertions that failed, in order.
+    /// The failures, in order.
     pub fn failures(&self) -> &[ConstraintFailure]
         ensures { result.now ≡ (failures_of self.now).items }
     {
         self.failures.as_slice()
     }
 
-    /// The failures in brackets, joined by `, `, as `[#0, #2 "label"]`; where a label isn't ASCII, nothing is said of
-    /// the text. It refuses for want of memory alone.
+    /// The failures in brackets, joined by `, `, as `[#0, #2 "label"]`. If a label isn't ASCII, the text is
+    /// unspecified.
     pub fn formatted_failures(&self) -> Result<String, AirError>
         ensures text { IfOk result (λ text. IfSome (failures_text (failures_of self.now).items)
             (λ bytes. string_bytes text ≡ bytes)) }
@@ -173,7 +173,7 @@ impl<'a, F: Field, EF: ExtensionField<F>> DebugConstraintBuilder<'a, F, EF> {
         Ok(text)
     }
 
-    /// The assertions that failed, handed over.
+    /// The failures, in order.
     pub fn into_failures(self) -> Vec<ConstraintFailure>
         ensures { result ≡ failures_of self.entry }
     {

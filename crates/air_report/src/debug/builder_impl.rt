@@ -115,7 +115,7 @@ impl<'a, F: Field, EF: ExtensionField<F> + 'static> AirBuilder
         Ok(self.row.selectors.is_transition)
     }
 
-    /// Asserts that `x` is zero; where it isn't, the failure has no label.
+    /// Asserts that `x` is zero; if it isn't, the failure has no label.
     #[inline(always)]
     fn assert_zero(&mut self, x: F) -> Result<(), AirError>
         ensures asserted { AssertedAtRow (is_zero_at F.ring EF.over F.eq EF.eq)

@@ -46,7 +46,7 @@ impl<'a, F: Field, EF: ExtensionField<F> + 'static> ExtensionBuilder
         &mut self.ext_ring
     }
 
-    /// Asserts that `x` is zero; where it isn't, the failure has no label.
+    /// Asserts that `x` is zero; if it isn't, the failure has no label.
     #[inline(always)]
     fn assert_zero_ext(&mut self, x: EF) -> Result<(), AirError>
         ensures asserted { AssertedAtRow (is_zero_at F.ring EF.over F.eq EF.eq)
@@ -84,7 +84,8 @@ impl<'a, F: Field, EF: ExtensionField<F> + 'static> PermutationAirBuilder
 
     type PermutationVar = EF;
 
-    /// The window of the permutation trace; a builder that was made without one, and it alone, refuses.
+    /// The window of the permutation trace. Fails only with `NoPermutation`, exactly if the builder was made without
+    /// one.
     #[inline(always)]
     fn permutation(&self) -> Result<RowWindow<'a, EF>, AirError>
         ensures current { IfOk result (λ w. RowReadsAs (λ v t. closed_value_in EF.over t ≡ v)

@@ -6,19 +6,18 @@ use std::alloc::{AllocError, Global};
 use std::fmt;
 use std::fmt::Display;
 
-/// A constraint that is not zero at a row, or a boundary cell that doesn't hold its public value.
+/// A constraint that isn't zero at a row, or a boundary value that differs from its public value.
 ///
-/// It displays as `#k`, where k is `constraint`, and behind it, where there is a label, a space and the label's debug
-/// text.
+/// It displays as `#k`, where k is `constraint`. A label follows as a space and the label's debug text.
 #[derive(Debug, Drop)]
 pub struct ConstraintFailure {
-    /// The row, from 0 on.
+    /// The row, counted from 0.
     pub row: usize,
-    /// The place of the constraint among those asserted at the row, from 0 on, or from the number that the builder was
-    /// made to count from; for a boundary cell its place in the
-    /// AIR's list, counted on from the constraints of a row.
+    /// The constraint index: the index among the row's assertions, counted from 0, or from the number that the builder
+    /// was made to count from. For a boundary value, its index in the AIR's list plus the number of constraints of a
+    /// row.
     pub constraint: usize,
-    /// The label that the constraint was asserted with, if it has one; a boundary cell has one always.
+    /// The label of the assertion, if it has one; a boundary value always has one.
     pub label: Option<String>,
 }
 
@@ -35,7 +34,7 @@ impl Display for ConstraintFailure {
 }
 
 impl ConstraintFailure {
-    /// A failure with the same row, constraint and label. It refuses for want of memory alone.
+    /// A failure with the same row, constraint and label.
     pub fn clone(&self) -> Result<Self, AllocError>
         ensures { IfOk result (λ copy. seen_failure copy ≡ seen_failure self.now) }
     {

@@ -1,4 +1,4 @@
-//! The log of a row: how many assertions there were, and which failed.
+//! The log of a row: the number of assertions, and the failures.
 ghost use Rattle.std.specs.Prelude.{◌≡◌, ◌+◌, ◌++◌, ◌^◌, ℕ, List, [], ◌∷◌, Option, false, IfOk, OnOk, OnErr, IfErr, IfSome};
 ghost use Rattle.air_report.specs.DebugLabels.{KeepsText, IsNameless, MayDisplay, LogsFailure, LogsOne, LogRefuses};
 ghost use Rattle.air_report.specs.DebugRow.{debug_row};
@@ -11,7 +11,7 @@ use std::alloc::{AllocError, Global};
 use std::mem;
 use std::string::ToString;
 
-/// The label that a name gives: what it displays, or none where that is empty.
+/// The label of a name: the text that it displays, or none if that is empty.
 fn label_of<N: Name>(alloc: Global, name: N) -> Result<Option<String>, AllocError>
     requires { N.can_evaluate name }
     ensures { IfOk result (λ label. (text : Option (List ℕ)) × N.displays name text × KeepsText text
@@ -25,11 +25,11 @@ fn label_of<N: Name>(alloc: Global, name: N) -> Result<Option<String>, AllocErro
     }
 }
 
-/// A list that is this long mostly gets much longer, and copying it at each doubling costs more than the checks: when
-/// it is full, room for two million failures more is asked for at once.
+/// A list of this length mostly gets much longer, and copying it at each doubling costs more than the checks. When it
+/// is full, it reserves room for two million more failures at once.
 const LONG: usize = 1 << 15;
 
-/// Puts a failure at the end of a list that may be full. Where much room is refused, the push asks for what it needs.
+/// Appends a failure to a list that may be full. If the large reservation is refused, the push reserves what it needs.
 #[cold]
 #[inline(never)]
 fn add(failures: &mut Vec<ConstraintFailure>, failure: ConstraintFailure) -> Result<(), AllocError>
@@ -43,8 +43,8 @@ fn add(failures: &mut Vec<ConstraintFailure>, failure: ConstraintFailure) -> Res
     Ok(())
 }
 
-/// Keeps a failure, with what its name displays. (An `AllocError` takes no place in memory: an `AirError` would, and a
-/// row's builder would make that place ready for each assertion that holds.)
+/// Keeps a failure with the text that its name displays. Returns `AllocError`, which is zero-sized: an `AirError` would
+/// reserve a stack slot on the path where the assertion holds.
 #[cold]
 #[inline(never)]
 fn keep_named<N: Name>(
@@ -67,7 +67,7 @@ fn keep_named<N: Name>(
     add(failures, failure)
 }
 
-/// Keeps a failure that has no name, in a list that may be full.
+/// Keeps a failure without a name, in a list that may be full.
 #[cold]
 #[inline(never)]
 fn keep_in_full(
@@ -87,8 +87,8 @@ fn keep_in_full(
     add(failures, failure)
 }
 
-/// Keeps a failure that has no name. (Apart from the others: a label's text and a list that is full need registers, and
-/// each failure would save them.)
+/// Keeps a failure without a name. A separate function, since labels and full lists need registers, which each failure
+/// would then have to save.
 #[cold]
 #[inline(never)]
 fn keep_nameless(
@@ -111,7 +111,7 @@ fn keep_nameless(
     keep_in_full(failures, row, constraint)
 }
 
-/// Keeps a failure, with what its name displays, if it has one.
+/// Keeps a failure, with the text that its name displays, if it has one.
 #[inline(always)]
 fn keep_failure<N: Name>(
     failures: &mut Vec<ConstraintFailure>,
@@ -131,7 +131,8 @@ fn keep_failure<N: Name>(
 }
 
 impl<'a, F: Field, EF: ExtensionField<F>> DebugConstraintBuilder<'a, F, EF> {
-    /// Counts an assertion. Where it doesn't hold its failure is kept, and then alone a name is evaluated.
+    /// Counts an assertion. If it doesn't hold, keeps its failure, and evaluates the name only then. Fails with
+    /// `CountOverflow` if the counter is at its maximum, and with `Memory` only if the assertion doesn't hold.
     #[inline(always)]
     pub(crate) fn log<N: Name>(&mut self, holds: bool, name: Option<N>) -> Result<(), AirError>
         requires { holds ≡ false → IfSome name N.can_evaluate }
@@ -147,7 +148,7 @@ impl<'a, F: Field, EF: ExtensionField<F>> DebugConstraintBuilder<'a, F, EF> {
             return Err(AirError::CountOverflow);
         }
         if !holds {
-            // the failures alone are lent to the call, so that a row's builder needs no place in memory
+            // lends only the failures to the call, so that a row's builder needn't be in memory
             let none = Vec::new(*self.failures.allocator());
             let mut failures = mem::replace(&mut self.failures, none);
             let kept = keep_failure(&mut failures, self.row.index, self.constraint_index, name);

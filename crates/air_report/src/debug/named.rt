@@ -1,4 +1,4 @@
-//! The debug builder keeps the labels of what fails, and has no context.
+//! The debug builder keeps the labels of failures, and has no context.
 ghost use Rattle.std.specs.Prelude.{◌≡◌, false, [], ◌∷◌, IfErr, refl};
 ghost use Rattle.air_builder.specs.Assertion.{Base};
 ghost use Rattle.air_builder.specs.Batches.{Asserts};

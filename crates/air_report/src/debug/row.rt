@@ -1,4 +1,4 @@
-//! The row that a debug builder stands at.
+//! The row of a debug builder.
 ghost use Rattle.air_report.specs.DebugRow.{IsRow};
 
 use air_builder::RowWindow;
@@ -12,8 +12,8 @@ pub(crate) struct Selectors<F: Field> {
     pub(crate) is_transition: F,
 }
 
-/// A row of a trace and the one after it, as they are lent: of the main trace and of the preprocessed table, with the
-/// public values and the selectors. The values of the periodic columns stand beside it, in the builder's own list.
+/// A row of a trace and the next one, borrowed: of the main and of the preprocessed trace, with the public values and
+/// the selectors. The values of the periodic columns are in the builder's own list.
 #[derive(Drop)]
 pub(crate) struct Row<'a, F: Field> {
     pub(crate) index: usize,
@@ -24,7 +24,7 @@ pub(crate) struct Row<'a, F: Field> {
 }
 
 impl<'a, F: Field> Row<'a, F> {
-    /// The row of this index: the pairs hold that row and the one after it.
+    /// The row of this index: the pairs hold that row and the next one.
     #[inline(always)]
     pub(crate) fn new(
         index: usize,

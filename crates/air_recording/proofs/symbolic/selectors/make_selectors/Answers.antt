@@ -42,7 +42,7 @@ pub returns-in_err-last_row-clause-grown : goal.returns-in_err-last_row-clause-g
 returns-in_err-last_row-clause-grown g c =
     (base_pool_laws g.F.Field.ring).joined c.args.pool.now c.leaf_expr.new.self c.leaf_expr-2.new.self c.leaf_expr.ensures.grown c.leaf_expr-2.ensures.grown
 
--- three growths, one after another
+-- three growths in sequence
 thrice : {F : Type 0} (r : CommRing F) (o p q s : Pool (Unit {0}) (BaseLeaf F)) → Grown base_grows base_reads o p → Grown base_grows base_reads p q → Grown base_grows base_reads q s → Grown base_grows base_reads o s
 thrice r o p q s f g h =
     let laws = base_pool_laws r in

@@ -7,7 +7,7 @@ use Rattle.air_report.specs.Shapes.{FitsHeight}
 use Rattle.air_report.proofs.checks.shapes.check_shapes.Goals as goal
 use Rattle.air_report.proofs.checks.shapes.check_shapes.Goals.{in-Some+else-preprocessed-height, in_default}
 
--- one element more has the property
+-- one more element has the property
 each_more : {X : Type 0} (P : ℕ → X → Type 0) (xs : List X) (n : ℕ) (x : X) → n < length xs → x ≡ get_or xs n x → EachOfFirst P xs n → P n x → EachOfFirst P xs (n + 1)
 each_more P xs n x lt is h p k b d =
     ⊎_elim
