@@ -6,6 +6,7 @@ use crate::bench::{Bench, Tables};
 use crate::faults::{Fault, Why, show_refusal};
 use crate::lines::{Line, line_of};
 use crate::report::Report;
+use crate::words::count_of;
 use std::alloc::Global;
 use std::process::ExitCode;
 use std::{env, fs};
@@ -164,21 +165,32 @@ fn check_file<T: Tables>(rt: &HostRuntime, name: &str, report: &mut Report) -> R
     Ok(true)
 }
 
-// The status: 0 if each table was checked to its end, there are lines, and none differs; 2 if some table was not
-// checked to its end; otherwise 1.
-fn status_of(whole: bool, report: &Report) -> u8
-    ensures good { (result ≡ 0)
-        ↔ ((whole ≡ true) × (0 < report.now.lines) × (report.now.differ ≡ 0)) }
+// The status: 0 if each table was checked to its end, there are lines, at least as many as expected, and none differs; 2
+// if some table was not checked to its end; otherwise 1.
+fn status_of(whole: bool, least: usize, report: &Report) -> u8
+    ensures good { (result ≡ 0) ↔ ((whole ≡ true) × (0 < report.now.lines)
+        × (least ≤ report.now.lines) × (report.now.differ ≡ 0)) }
     ensures broken { (result ≡ 2) ↔ (whole ≡ false) }
     ensures status { result ≤ 2 }
 {
     if !whole {
         2
-    } else if report.lines == 0 || report.differ > 0 {
+    } else if report.lines == 0 || report.lines < least || report.differ > 0 {
         1
     } else {
         0
     }
+}
+
+// Prints the number of lines, only the expected one if there are as many, and how many of them differ.
+fn print_counts(rt: &HostRuntime, least: usize, report: &Report) -> Result<(), Fault> {
+    let (lines, differ) = (report.lines, report.differ);
+    if least > 0 && lines >= least {
+        println!(rt; "at least {least} lines, {differ} differ")?;
+    } else {
+        println!(rt; "{lines} lines, {differ} differ")?;
+    }
+    Ok(())
 }
 
 // Checks the table of each word, and returns the status.
@@ -187,20 +199,23 @@ fn check_all<T: Tables>(rt: &HostRuntime) -> Result<u8, Fault>
 {
     let mut report = Report::new(false);
     let mut whole = true;
+    let mut least = 0;
     for word in env::args(rt)?.skip(1) {
         if word.as_str() == "again" {
             report.again = true;
+        } else if let Some(number) = word.strip_prefix("least=") {
+            least = count_of(number)?;
         } else if !check_file::<T>(rt, word.as_str(), &mut report)? {
             whole = false;
         }
     }
-    let (lines, differ) = (report.lines, report.differ);
-    println!(rt; "{lines} lines, {differ} differ")?;
-    Ok(status_of(whole, &report))
+    print_counts(rt, least, &report)?;
+    Ok(status_of(whole, least, &report))
 }
 
 /// Checks the tables that the program's arguments name. After an argument `again`, each call that runs out of memory is
-/// made once more. Prints each line that differs, then the number of lines and how many of them differ.
+/// made once more. Prints each line that differs, then the number of lines and how many of them differ. An argument
+/// `least=N` expects at least N lines, and prints only N if there are as many.
 pub fn run<T: Tables>(rt: &HostRuntime) -> ExitCode
     ensures status { exit_status result ≤ 2 }
 {
