@@ -113,7 +113,8 @@ pub record IsProperCell {F : Type 0} (x : Instance F) (earlier : List BoundaryPu
 abbrev pub AreProperBelow : {F : Type 0} → Instance F → ℕ → Type 0
 AreProperBelow x n = (k : ℕ) (cell : BoundaryPublic) → k < n → slice_get x.air.cells k ≡ Some cell → IsProperCell x (take k x.air.cells) cell
 
--- The trace is as the AIR declares.
+-- The trace fits: the fixed columns have its height, each row has the entries that constraints name, and the boundary values are
+-- proper. More columns or public values than declared fit too.
 pub record FitsDeclaration {F : Type 0} (x : Instance F) : Type 0 where
   pub fixed_columns : FixedColumnsFit x
   pub entries : RowsHaveEntries x

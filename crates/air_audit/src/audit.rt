@@ -50,7 +50,9 @@ pub fn audit_air<
     public_values: &'a [F],
     transition_weight: usize,
 ) -> Result<Audit<F>, AirError>
-    // Each entry that a declared constraint names is one of the AIR's, and the trace is as the AIR declares.
+    // Each entry that a declared constraint names is one of the AIR's. The trace fits: each row has these entries, the
+    // fixed columns have the trace's height, and the boundary values are proper. (More columns or public values than
+    // declared fit too.)
     ensures there { OnOk result (NamesOwnEntries (A.declaration air.now)) }
     ensures fits { OnOk result (FitsDeclaration
         (instance (A.declaration air.now) main.now public_values.now)) }
