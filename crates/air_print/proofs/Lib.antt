@@ -7,4 +7,4 @@ pub mod LineEnds
 pub mod LabelLemmas
 pub mod Numbers
 pub mod Definitions
-pub mod Pieces
+pub mod ExplainedPieces

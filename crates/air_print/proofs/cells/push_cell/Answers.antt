@@ -1,7 +1,7 @@
 use Rattle.std.proofs.Common.{◌++◌, codes, string_bytes, ap, ap₂, ◌∙◌}
 use Rattle.air_core.specs.declared.variables.entry.BaseEntry.TheVariants.{Main, Public}
 use Rattle.air_print.specs.Cells.{variable_text}
-use Rattle.air_print.proofs.Pieces.{cell-pieces}
+use Rattle.air_print.proofs.ExplainedPieces.{cell-pieces}
 use Rattle.air_print.proofs.cells.push_cell.Goals as goal
 
 pub returns : goal.returns

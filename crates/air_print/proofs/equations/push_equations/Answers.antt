@@ -1,6 +1,6 @@
 use Rattle.std.proofs.Common.{◌++◌, get_or, string_bytes, refl, sym, ap, ◌∙◌, append-nil}
 use Rattle.air_print.specs.Equations.{equation}
-use Rattle.air_print.proofs.Pieces.{begun-nil, not-zero, begun-more, begun-none, begun-all}
+use Rattle.air_print.proofs.ExplainedPieces.{begun-nil, not-zero, begun-more, begun-none, begun-all}
 use Rattle.air_print.proofs.equations.push_equations.Goals as goal
 
 pub loop-id-init : goal.loop-id-init

@@ -1,6 +1,6 @@
 use Rattle.std.proofs.Common.{◌≡◌, ◌++◌, eqb, take, get_or, string_bytes}
 use Rattle.air_print.specs.Equations.{equation}
-use Rattle.air_print.proofs.Pieces.{begun}
+use Rattle.air_print.proofs.ExplainedPieces.{begun}
 use Rattle.air_print.proofs.equations.push_equations.Given as goal
 
 -- the equations so far

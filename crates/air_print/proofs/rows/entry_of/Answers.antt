@@ -1,5 +1,5 @@
 use Rattle.std.proofs.Common.{sym, ◌∙◌}
-use Rattle.air_print.proofs.Pieces.{entry-none}
+use Rattle.air_print.proofs.ExplainedPieces.{entry-none}
 use Rattle.air_print.proofs.rows.entry_of.Goals as goal
 
 pub returns-in-None : goal.returns-in-None

@@ -1,5 +1,5 @@
 use Rattle.std.proofs.Common.{◌%◌, List, length, slice_index_or, ap, ◌∙◌}
-use Rattle.air_print.proofs.Pieces.{periodic-within}
+use Rattle.air_print.proofs.ExplainedPieces.{periodic-within}
 use Rattle.air_print.proofs.rows.periodic_of.Goals as goal
 
 pub returns-then-index-columns : goal.returns-then-index-columns
