@@ -8,3 +8,5 @@ mod Needed
 mod Roots
 mod Asserting
 mod Rows
+mod ExtRoots
+mod OverRoots

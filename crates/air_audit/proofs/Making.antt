@@ -1,5 +1,5 @@
 -- Making the expressions of numbers.
-use Rattle.std.proofs.Common.{◌≡◌, ◌<◌, ℕ, List, [], length, slice_get, Option, Some, Ok, Err, sym, ap, ap₂, subst, ◌∙◌, arith}
+use Rattle.std.proofs.Common.{◌≡◌, ◌<◌, ℕ, List, [], length, get_or, slice_get, Option, Some, Ok, Err, sym, ap, ap₂, subst, ◌∙◌, arith}
 use Rattle.air_field.specs.Term.{Leaf, main, Term, leaf_term, add_term, sub_term, neg_term, mul_term}
 use Rattle.air_core.specs.declared.errors.AirError.TheVariants.{RowOffset}
 use Rattle.air_symbolic.specs.Leaves.{Leaves}
@@ -16,7 +16,7 @@ use Rattle.air_author.specs.Handing.{each_weaker, made_lasts}
 use Rattle.air_symbolic.specs.laws.Sharing.{found}
 use Rattle.air_audit.specs.declared.flat.step.Step.{Step}
 use Rattle.air_audit.specs.Plans.{number_at, IsPlaceOf, MakesPlace, StepMakes, column_of, IsColumn, IsSumOf, IsDifferenceOf, IsNegativeOf, IsProductOf}
-use Rattle.air_audit.specs.Tables.{IsMade, HasAt}
+use Rattle.air_audit.specs.Tables.{IsMade, HasAt, HasNumber}
 
 -- what a table has at a place is what is read there
 pub read_is : {E : Type 0} (P : E → Type 0) (table : List E) (p : ℕ) (r : E) → HasAt P table p → slice_get table p ≡ Some r → P r
@@ -147,3 +147,13 @@ module _ {S R E F : Type 0} {view : BuilderView S R E F} (ring : RingLaws view) 
       → HasAt (IsMade (MeansIn view) missing a u) table q
       → AlwaysAfter kept (λ b. HasAt (IsMade (MeansIn view) missing b t) table p × HasAt (IsMade (MeansIn view) missing b u) table q) a
   both_last table p q t u a h i b k = (at_lasts table p t a h b k, at_lasts table q u a i b k)
+
+  -- the same of what it has by numbers
+  pub number_lasts : (places : List ℕ) (table : List E) (i : ℕ) (t : Term F) (a : S) → HasNumber (IsMade (MeansIn view) missing a t) places table i
+      → AlwaysAfter kept (λ b. HasNumber (IsMade (MeansIn view) missing b t) places table i) a
+  number_lasts places table i t a h b k = (h.0, at_lasts table (get_or places i 0) t a h.1 b k)
+
+  pub numbers_last : (places : List ℕ) (table : List E) (i j : ℕ) (t u : Term F) (a : S) → HasNumber (IsMade (MeansIn view) missing a t) places table i
+      → HasNumber (IsMade (MeansIn view) missing a u) places table j
+      → AlwaysAfter kept (λ b. HasNumber (IsMade (MeansIn view) missing b t) places table i × HasNumber (IsMade (MeansIn view) missing b u) places table j) a
+  numbers_last places table i j t u a h m b k = (number_lasts places table i t a h b k, number_lasts places table j u a m b k)

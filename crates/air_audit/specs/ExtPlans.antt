@@ -30,7 +30,7 @@ pub record HaveRoots (count : ℕ) (numbers table roots : List ℕ) : Type 0 whe
 pub record IsOrder {A F : Type 0} (l : Leaves A F) (ns : List (SymbolicExpr A)) (roots numbers table : List ℕ) : Type 0 where
   pub here : (k : ℕ) → k < length numbers → number_at numbers k < length ns
   pub before : (k : ℕ) → k < length numbers → (n : SymbolicExpr A) → IsNode l ns (number_at numbers k) n → EachOperand (λ i. IsPlaceOf numbers k (slice_index_or table i 0) i) n
-  pub roots : HaveRoots (length ns) numbers table roots
+  pub rooted : HaveRoots (length ns) numbers table roots
   pub used : (k : ℕ) → k < length numbers → IsUsed ns roots numbers (number_at numbers k)
 
 -- the roots of one kind, in order
