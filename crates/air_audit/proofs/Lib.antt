@@ -10,3 +10,4 @@ mod Asserting
 mod Rows
 mod ExtRoots
 mod OverRoots
+mod OverMaking

@@ -127,6 +127,19 @@ module _ {S R X B E F EF : Type 0} {view : BuilderView S R B F} {over : Extensio
       → AssertedEach asserts kept grew refuses b c (root.Extension i ∷ []) r
   over_root b c i x r at h = as_another ring laws b c x (root.Extension i) r (λ s k. read_is _ table (get_or places i 0) x k at) h
 
+  -- what is of the ring stays of it
+  pub root_has_kept : (a b : S) → kept a b → (r : Root F EF) → RootHas (λ i. view.has (view.ring_of a)) (λ i. over.has (over.ring_of a)) base_places places base table r
+      → RootHas (λ i. view.has (view.ring_of b)) (λ i. over.has (over.ring_of b)) base_places places base table r
+  root_has_kept a b k (root.Base i) h = let x = h.1 in (h.0, (x.0, x.1, ring.has_stays (view.ring_of a) (view.ring_of b) x.0 (laws.ring_kept a b k) x.2))
+  root_has_kept a b k (root.Extension i) h = let x = h.1 in (h.0, (x.0, x.1, over_ring.has_stays (over.ring_of a) (over.ring_of b) x.0 (extension.ext_ring_kept a b k) x.2))
+
+  -- a root that a table has is in its list of places
+  pub base_long : (a : S) (r : Root F EF) (i : ℕ) → r ≡ root.Base i → RootHas (λ i. view.has (view.ring_of a)) (λ i. over.has (over.ring_of a)) base_places places base table r → i < length base_places
+  base_long a r i e h = (subst (λ v. RootHas (λ i. view.has (view.ring_of a)) (λ i. over.has (over.ring_of a)) base_places places base table v) e h).0
+
+  pub over_long : (a : S) (r : Root F EF) (i : ℕ) → r ≡ root.Extension i → RootHas (λ i. view.has (view.ring_of a)) (λ i. over.has (over.ring_of a)) base_places places base table r → i < length places
+  over_long a r i e h = (subst (λ v. RootHas (λ i. view.has (view.ring_of a)) (λ i. over.has (over.ring_of a)) base_places places base table v) e h).0
+
   -- no root yet, one root after another, and all
   pub no_root : (a : S) → AssertedEach asserts kept grew refuses a a [] (Ok tt)
   no_root a = nothing_asserted laws asserts root_kept a
@@ -141,8 +154,9 @@ module _ {S R X B E F EF : Type 0} {view : BuilderView S R B F} {over : Extensio
         → AssertedEach asserts kept grew refuses b c (r ∷ []) (Err e) → IsErrAnd result (λ y. y ≡ e) → AssertedEach asserts kept grew refuses a c roots result
     root_refused r lt is h k given = asserted_refused laws asserts root_kept {a = a} {b = b} {c = c} roots i r lt is h k given
 
-    pub all_roots : length roots ≤ i → AssertedEach asserts kept grew refuses a b (take i roots) (Ok u) → AssertedEach asserts kept grew refuses a b roots (Ok tt)
-    all_roots end h = asserted_all laws asserts root_kept {a = a} {b = b} roots i end h
+  pub all_roots : {a b : S} {u : Unit {0}} (roots : List (Root F EF)) (i : ℕ) → length roots ≤ i → AssertedEach asserts kept grew refuses a b (take i roots) (Ok u)
+      → AssertedEach asserts kept grew refuses a b roots (Ok tt)
+  all_roots {a} {b} roots i end h = asserted_all laws asserts root_kept {a = a} {b = b} roots i end h
 
   module _ (basis : Basis F EF) (p : ExtNodes F EF) (b : S) where
     -- what is made of a root in the builder

@@ -42,8 +42,8 @@ where
         (ext_ids air.now.roots.items) → OrMemory AB.refuses builder.old e ss) }
 {
     let mut table = Vec::with_capacity(alloc, air.plan.numbers.len())?;
-    for _id in &air.plan.numbers {
-        let x = make_ext_place(builder, air, table.len(), base, &table)?;
+    for place in 0..air.plan.numbers.len() {
+        let x = make_ext_place(builder, air, place, base, &table)?;
         table.push_reserved(x);
     }
     Ok(table)
