@@ -53,11 +53,13 @@ module _ {F EF : Type 0} where
   ext_ids-append (root.Extension i ∷ xs) ys = ap (λ v. i ∷ v) (ext_ids-append xs ys)
 
   -- one root more
-  pub base_ids-more : (roots : List (Root F EF)) (k : ℕ) (r : Root F EF) → k < length roots → r ≡ get_or roots k r → base_ids (take (k + 1) roots) ≡ base_ids (take k roots) ++ base_ids (r ∷ [])
+  pub base_ids-more : (roots : List (Root F EF)) (k : ℕ) (r : Root F EF) → k < length roots → r ≡ get_or roots k r
+      → base_ids (take (k + 1) roots) ≡ base_ids (take k roots) ++ base_ids (r ∷ [])
   base_ids-more roots k r lt is =
       ap base_ids (take_more roots k r lt ∙ ap (λ v. take k roots ++ v ∷ []) (sym is)) ∙ base_ids-append (take k roots) (r ∷ [])
 
-  pub ext_ids-more : (roots : List (Root F EF)) (k : ℕ) (r : Root F EF) → k < length roots → r ≡ get_or roots k r → ext_ids (take (k + 1) roots) ≡ ext_ids (take k roots) ++ ext_ids (r ∷ [])
+  pub ext_ids-more : (roots : List (Root F EF)) (k : ℕ) (r : Root F EF) → k < length roots → r ≡ get_or roots k r
+      → ext_ids (take (k + 1) roots) ≡ ext_ids (take k roots) ++ ext_ids (r ∷ [])
   ext_ids-more roots k r lt is =
       ap ext_ids (take_more roots k r lt ∙ ap (λ v. take k roots ++ v ∷ []) (sym is)) ∙ ext_ids-append (take k roots) (r ∷ [])
 
@@ -67,7 +69,8 @@ module _ {F EF : Type 0} where
       ap (λ v. lifted_at (slice_get ns x) ++ v) (lifted-append ns xs ys) ∙ sym (append_assoc (lifted_at (slice_get ns x)) (lifted_ids ns xs) (lifted_ids ns ys))
 
   -- one number more
-  pub lifted_ids-more : (ns : List (SymbolicExpr (ExtLeaf F EF))) (numbers : List ℕ) (k i : ℕ) (n : SymbolicExpr (ExtLeaf F EF)) → k < length numbers → i ≡ get_or numbers k i → slice_get ns i ≡ Some n
+  pub lifted_ids-more : (ns : List (SymbolicExpr (ExtLeaf F EF))) (numbers : List ℕ) (k i : ℕ) (n : SymbolicExpr (ExtLeaf F EF)) → k < length numbers
+      → i ≡ get_or numbers k i → slice_get ns i ≡ Some n
       → lifted_ids ns (take (k + 1) numbers) ≡ lifted_ids ns (take k numbers) ++ lifted_of n
   lifted_ids-more ns numbers k i n lt is at =
       ap (lifted_ids ns) (take_more numbers k i lt ∙ ap (λ v. take k numbers ++ v ∷ []) (sym is))
@@ -75,7 +78,8 @@ module _ {F EF : Type 0} where
       ∙ ap (λ v. lifted_ids ns (take k numbers) ++ v) (append-nil (lifted_at (slice_get ns i)) ∙ ap lifted_at at)
 
 -- what holds of the first elements, and of one more
-pub all_more : {X : Type 0} (P : X → Type 0) (xs : List X) (k : ℕ) (x : X) → k < length xs → x ≡ get_or xs k x → All P (take k xs) → P x → All P (take (k + 1) xs)
+pub all_more : {X : Type 0} (P : X → Type 0) (xs : List X) (k : ℕ) (x : X) → k < length xs → x ≡ get_or xs k x → All P (take k xs) → P x
+    → All P (take (k + 1) xs)
 all_more P xs k x lt is h p =
     subst (All P) (sym (take_more xs k x lt ∙ ap (λ v. take k xs ++ v ∷ []) (sym is)))
     (All-append P (take k xs) (x ∷ []) h (all_and P x [] p (no_elements P)))
@@ -85,11 +89,13 @@ module _ {F EF : Type 0} (basis : Basis F EF) (p : ExtNodes F EF) where
   pub over_here : (roots : List (Root F EF)) → All (RootHere p) roots → All (λ i. i < size p) (ext_ids roots)
   over_here [] h = no_elements (λ i. i < size p)
   over_here (root.Base i ∷ rest) h = over_here rest (all_rest (RootHere p) (root.Base i) rest h)
-  over_here (root.Extension i ∷ rest) h = all_and (λ j. j < size p) i (ext_ids rest) (h 0 (root.Extension i) (omega arith)) (over_here rest (all_rest (RootHere p) (root.Extension i) rest h))
+  over_here (root.Extension i ∷ rest) h = all_and (λ j. j < size p) i (ext_ids rest) (h 0 (root.Extension i) (omega arith))
+      (over_here rest (all_rest (RootHere p) (root.Extension i) rest h))
 
   base_here : (roots : List (Root F EF)) → All (RootHere p) roots → All (λ i. i < size p.base) (base_ids roots)
   base_here [] h = no_elements (λ i. i < size p.base)
-  base_here (root.Base i ∷ rest) h = all_and (λ j. j < size p.base) i (base_ids rest) (h 0 (root.Base i) (omega arith)) (base_here rest (all_rest (RootHere p) (root.Base i) rest h))
+  base_here (root.Base i ∷ rest) h = all_and (λ j. j < size p.base) i (base_ids rest) (h 0 (root.Base i) (omega arith))
+      (base_here rest (all_rest (RootHere p) (root.Base i) rest h))
   base_here (root.Extension i ∷ rest) h = base_here rest (all_rest (RootHere p) (root.Extension i) rest h)
 
   -- what a node holds is of the base pool
@@ -106,17 +112,25 @@ module _ {F EF : Type 0} (basis : Basis F EF) (p : ExtNodes F EF) where
     lifted_here : (numbers : List ℕ) → All (λ j. j < size p) numbers → All (λ i. i < size p.base) (lifted_ids p.nodes numbers)
     lifted_here [] h = no_elements (λ i. i < size p.base)
     lifted_here (j ∷ rest) h =
-        let f : (n : SymbolicExpr (ExtLeaf F EF)) × IsNode (ext_reads basis p.base) p.nodes j n = found (ext_reads basis p.base) p.nodes is_pool.nodes j (h 0 j (omega arith)) in
+        let f : (n : SymbolicExpr (ExtLeaf F EF)) × IsNode (ext_reads basis p.base) p.nodes j n = found (ext_reads basis p.base) p.nodes is_pool.nodes j
+        (h 0 j (omega arith)) in
         All-append (λ i. i < size p.base) (lifted_at (slice_get p.nodes j)) (lifted_ids p.nodes rest)
         (subst (λ o. All (λ i. i < size p.base) (lifted_at o)) (sym f.1.node) (held_here j f.0 f.1))
         (lifted_here rest (all_rest (λ v. v < size p) j rest h))
 
     -- what is made of the base pool is of it
-    pub made_here : (roots : List (Root F EF)) (numbers : List ℕ) → All (RootHere p) roots → All (λ j. j < size p) numbers → All (λ i. i < size p.base) (made_of_base p roots numbers)
+    pub made_here : (roots : List (Root F EF)) (numbers : List ℕ) → All (RootHere p) roots → All (λ j. j < size p) numbers
+        → All (λ i. i < size p.base) (made_of_base p roots numbers)
     made_here roots numbers h m = All-append (λ i. i < size p.base) (lifted_ids p.nodes numbers) (base_ids roots) (lifted_here numbers m) (base_here roots h)
 
     -- a node that is refused is one that the roots reach
-    pub reaches_far : (roots : List (Root F EF)) (numbers table : List ℕ) (e : AirError) → IsOrder (ext_reads basis p.base) p.nodes (ext_ids roots) numbers table
+    pub reaches_far : (roots : List (Root F EF)) (numbers table : List ℕ) (e : AirError)
+        → IsOrder (ext_reads basis p.base) p.nodes (ext_ids roots) numbers table
         → SomeRefuses p.nodes numbers e → ReachesFarRow basis p roots e
     reaches_far roots numbers table e h (k, lt, far) =
-        record { number = number_at numbers k; reached = number_reached (ext_reads basis p.base) p.nodes is_pool.nodes (ext_ids roots) numbers h.here h.used k lt; far = far }
+        record {
+          number = number_at numbers k;
+          reached = number_reached (ext_reads basis p.base) p.nodes is_pool.nodes (ext_ids roots) numbers h.here h.used k
+              lt;
+          far = far;
+        }

@@ -48,6 +48,7 @@ window-prop : {F EF : Type 0} (o : Option (SymbolicExpr (ExtLeaf F EF))) → IsP
 window-prop None = hlevel props
 window-prop (Some n) = node-prop n
 
-pub IsExtPlan-prop : {F EF : Type 0} (basis : Basis F EF) (p : ExtNodes F EF) (roots : List (Root F EF)) (base_numbers : List ℕ) (base_steps : List Step) (base_places base_table numbers table : List ℕ) → IsProp (IsExtPlan basis p roots base_numbers base_steps base_places base_table numbers table)
+pub IsExtPlan-prop : {F EF : Type 0} (basis : Basis F EF) (p : ExtNodes F EF) (roots : List (Root F EF)) (base_numbers : List ℕ) (base_steps : List Step)
+    (base_places base_table numbers table : List ℕ) → IsProp (IsExtPlan basis p roots base_numbers base_steps base_places base_table numbers table)
 IsExtPlan-prop {F = F} {EF = EF} basis p roots base_numbers base_steps base_places base_table numbers table =
     hlevel (props, IsOrder-prop (ext_reads basis p.base), window-prop {F = F} {EF = EF}, IsPlan-prop (base_leaves {F = F}))

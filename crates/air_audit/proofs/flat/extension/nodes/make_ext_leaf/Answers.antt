@@ -21,6 +21,9 @@ make_ext-requires-clause-usable g c =
     let q = subst (λ a. LeafIsPlanned numbers places a) c.in-Base.is c.requires.planned in
     let at = place_read places c.in-Base.id c.number.result place q.0 c.number.ensures c.index-place.ensures in
     let lt = subst (λ p. p < length numbers) at q.1.0 in
-    let h = at_lasts g.met.AB.Ring.Algebra.laws g.met.AB.AirBuilder.laws base place (term_at base_reads air.pool.base (number_at numbers place)) c.args.builder.now (c.requires.base place lt) in
-    subst (λ u. AlwaysAfter A.kept (λ b. HasAt (made b (term_at base_reads u (number_at c.deref.result.now place))) base place) c.args.builder.now) (sym c.base.ensures)
-    (subst (λ v. AlwaysAfter A.kept (λ b. HasAt (made b (term_at base_reads air.pool.base (number_at v place))) base place) c.args.builder.now) (sym c.deref.ensures.value) h)
+    let h = at_lasts g.met.AB.Ring.Algebra.laws g.met.AB.AirBuilder.laws base place (term_at base_reads air.pool.base (number_at numbers place))
+    c.args.builder.now (c.requires.base place lt) in
+    subst (λ u. AlwaysAfter A.kept (λ b. HasAt (made b (term_at base_reads u (number_at c.deref.result.now place))) base place) c.args.builder.now)
+    (sym c.base.ensures)
+    (subst (λ v. AlwaysAfter A.kept (λ b. HasAt (made b (term_at base_reads air.pool.base (number_at v place))) base place) c.args.builder.now)
+    (sym c.deref.ensures.value) h)

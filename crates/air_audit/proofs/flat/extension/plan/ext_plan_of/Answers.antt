@@ -32,7 +32,8 @@ returns-in_err-made-clause-refused g c =
     (⊎_elim (λ (m : e ≡ Memory). inl m)
     (λ (r : SomeRefuses p.nodes c.deref-2.result.now e).
     inr (reaches_far basis p c.requires.pool c.args.roots.now both.numbers.items both.table.items e
-    (subst (λ v. IsOrder (ext_reads basis p.base) p.nodes v both.numbers.items both.table.items) (c.deref.ensures.value ∙ c.in_ok-over.ensures.ids) both.ensures.ordered)
+    (subst (λ v. IsOrder (ext_reads basis p.base) p.nodes v both.numbers.items both.table.items) (c.deref.ensures.value ∙ c.in_ok-over.ensures.ids)
+    both.ensures.ordered)
     (subst (λ v. SomeRefuses p.nodes v e) c.deref-2.ensures.value r)))
     c.in_err-made.ensures.refused)
 
@@ -42,6 +43,7 @@ plan_with_places-requires g c =
     let both = c.in_ok-numbers in
     let basis = g.EF.ExtensionField.basis in
     let order = order_here (ext_reads basis p.base) p.nodes c.deref.result.now both.numbers.items both.table.items both.ensures.ordered in
-    let here = made_here basis p c.requires.pool c.args.roots.now c.deref-2.result.now c.requires.here (subst (λ v. All (λ i. i < size p) v) (sym c.deref-2.ensures.value) order) in
+    let here = made_here basis p c.requires.pool c.args.roots.now c.deref-2.result.now c.requires.here
+    (subst (λ v. All (λ i. i < size p) v) (sym c.deref-2.ensures.value) order) in
     let made = c.deref-3.ensures.value ∙ c.in_ok-push_base_roots.ensures.ok ∙ ap (λ v. v ++ base_ids c.args.roots.now) c.in_ok-made.ensures.ids in
     record { here = subst (λ u. All (λ i. i < size u) c.deref-3.result.now) (sym c.base.ensures) (subst (λ v. All (λ i. i < size p.base) v) (sym made) here) }

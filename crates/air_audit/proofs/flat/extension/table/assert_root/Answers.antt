@@ -12,12 +12,16 @@ returns-in-Base g c =
     let means = Means g.AB.Ring.Algebra.means A.ring_of A.reads_as in
     let means_over = Means g.AB.ExtRing.Algebra.means g.AB.ExtensionBuilder.ext_ring_of A.reads_as in
     let plan = c.args.air.now.plan in
-    subst (λ r. AssertedEach (AssertsRoot means means_over plan.base_table.items plan.table.items c.args.base.now c.args.table.now) A.kept A.grew A.refuses c.args.builder.now c.assert_zero_named.new.self (r ∷ []) c.assert_zero_named.result)
+    subst (λ r. AssertedEach (AssertsRoot means means_over plan.base_table.items plan.table.items c.args.base.now c.args.table.now) A.kept A.grew A.refuses
+    c.args.builder.now c.assert_zero_named.new.self (r ∷ []) c.assert_zero_named.result)
     (sym c.in-Base.is)
-    (base_root g.met.AB.Ring.Algebra.laws g.met.AB.ExtRing.Algebra.laws g.met.AB.AirBuilder.laws g.met.AB.ExtensionBuilder.ext_laws plan.base_table.items plan.table.items c.args.base.now c.args.table.now
-    c.args.builder.now c.assert_zero_named.new.self c.in-Base.id c.expression_at-x.result c.assert_zero_named.result 
+    (base_root g.met.AB.Ring.Algebra.laws g.met.AB.ExtRing.Algebra.laws g.met.AB.AirBuilder.laws g.met.AB.ExtensionBuilder.ext_laws plan.base_table.items
+    plan.table.items c.args.base.now c.args.table.now
+    c.args.builder.now c.assert_zero_named.new.self c.in-Base.id c.expression_at-x.result c.assert_zero_named.result
     (number_read plan.base_table.items c.args.base.now c.in-Base.id c.number.result c.index.result.now c.expression_at-x.result
-    (base_long g.met.AB.Ring.Algebra.laws g.met.AB.ExtRing.Algebra.laws g.met.AB.AirBuilder.laws g.met.AB.ExtensionBuilder.ext_laws plan.base_table.items plan.table.items c.args.base.now c.args.table.now c.args.builder.now c.args.id c.in-Base.id c.in-Base.is c.requires.of_ring) c.number.ensures c.index.ensures c.expression_at-x.ensures)
+    (base_long g.met.AB.Ring.Algebra.laws g.met.AB.ExtRing.Algebra.laws g.met.AB.AirBuilder.laws g.met.AB.ExtensionBuilder.ext_laws plan.base_table.items
+    plan.table.items c.args.base.now c.args.table.now c.args.builder.now c.args.id c.in-Base.id c.in-Base.is c.requires.of_ring) c.number.ensures
+    c.index.ensures c.expression_at-x.ensures)
     c.assert_zero_named.ensures.asserted)
 
 pub returns-in-Extension : goal.returns-in-Extension
@@ -26,10 +30,15 @@ returns-in-Extension g c =
     let means = Means g.AB.Ring.Algebra.means A.ring_of A.reads_as in
     let means_over = Means g.AB.ExtRing.Algebra.means g.AB.ExtensionBuilder.ext_ring_of A.reads_as in
     let plan = c.args.air.now.plan in
-    subst (λ r. AssertedEach (AssertsRoot means means_over plan.base_table.items plan.table.items c.args.base.now c.args.table.now) A.kept A.grew A.refuses c.args.builder.now c.assert_zero_ext_named.new.self (r ∷ []) c.assert_zero_ext_named.result)
+    subst (λ r. AssertedEach (AssertsRoot means means_over plan.base_table.items plan.table.items c.args.base.now c.args.table.now) A.kept A.grew A.refuses
+    c.args.builder.now c.assert_zero_ext_named.new.self (r ∷ []) c.assert_zero_ext_named.result)
     (sym c.in-Extension.is)
-    (over_root g.met.AB.Ring.Algebra.laws g.met.AB.ExtRing.Algebra.laws g.met.AB.AirBuilder.laws g.met.AB.ExtensionBuilder.ext_laws plan.base_table.items plan.table.items c.args.base.now c.args.table.now
-    c.args.builder.now c.assert_zero_ext_named.new.self c.in-Extension.id c.expression_at-x-in-Extension.result c.assert_zero_ext_named.result 
-    (number_read plan.table.items c.args.table.now c.in-Extension.id c.number-in-Extension.result c.index-in-Extension.result.now c.expression_at-x-in-Extension.result
-    (over_long g.met.AB.Ring.Algebra.laws g.met.AB.ExtRing.Algebra.laws g.met.AB.AirBuilder.laws g.met.AB.ExtensionBuilder.ext_laws plan.base_table.items plan.table.items c.args.base.now c.args.table.now c.args.builder.now c.args.id c.in-Extension.id c.in-Extension.is c.requires.of_ring) c.number-in-Extension.ensures c.index-in-Extension.ensures c.expression_at-x-in-Extension.ensures)
+    (over_root g.met.AB.Ring.Algebra.laws g.met.AB.ExtRing.Algebra.laws g.met.AB.AirBuilder.laws g.met.AB.ExtensionBuilder.ext_laws plan.base_table.items
+    plan.table.items c.args.base.now c.args.table.now
+    c.args.builder.now c.assert_zero_ext_named.new.self c.in-Extension.id c.expression_at-x-in-Extension.result c.assert_zero_ext_named.result
+    (number_read plan.table.items c.args.table.now c.in-Extension.id c.number-in-Extension.result c.index-in-Extension.result.now
+    c.expression_at-x-in-Extension.result
+    (over_long g.met.AB.Ring.Algebra.laws g.met.AB.ExtRing.Algebra.laws g.met.AB.AirBuilder.laws g.met.AB.ExtensionBuilder.ext_laws plan.base_table.items
+    plan.table.items c.args.base.now c.args.table.now c.args.builder.now c.args.id c.in-Extension.id c.in-Extension.is c.requires.of_ring)
+    c.number-in-Extension.ensures c.index-in-Extension.ensures c.expression_at-x-in-Extension.ensures)
     c.assert_zero_ext_named.ensures.asserted)

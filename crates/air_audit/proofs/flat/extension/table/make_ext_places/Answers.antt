@@ -24,14 +24,16 @@ make_ext_place-requires-clause-base g c =
     let air = c.args.air.now in
     let numbers = air.plan.base.numbers.items in
     let b = c.loop-place.builder in
-    table_lasts g.met.AB.Ring.Algebra.laws laws (term_at base_reads air.pool.base) numbers c.args.base.now (length numbers) c.args.builder.now b (laws.by_growth c.args.builder.now b [] c.loop-place.invariant.grown) c.requires.base
+    table_lasts g.met.AB.Ring.Algebra.laws laws (term_at base_reads air.pool.base) numbers c.args.base.now (length numbers) c.args.builder.now b
+    (laws.by_growth c.args.builder.now b [] c.loop-place.invariant.grown) c.requires.base
 
 pub make_ext_place-requires-clause-table : goal.make_ext_place-requires-clause-table
 make_ext_place-requires-clause-table g c =
     let A = g.AB.AirBuilder in
     let air = c.args.air.now in
     let made = IsMade (Means g.AB.ExtRing.Algebra.means g.AB.ExtensionBuilder.ext_ring_of A.reads_as) A.missing c.loop-place.builder in
-    subst (λ v. TableMade made (term_at (ext_reads g.AB.EF.ExtensionField.basis) air.pool) air.plan.numbers.items v c.loop-place.place) (sym c.deref.ensures.value) c.loop-place.invariant.made
+    subst (λ v. TableMade made (term_at (ext_reads g.AB.EF.ExtensionField.basis) air.pool) air.plan.numbers.items v c.loop-place.place)
+    (sym c.deref.ensures.value) c.loop-place.invariant.made
 
 pub returns-in_err-x-clause-keeps : goal.returns-in_err-x-clause-keeps
 returns-in_err-x-clause-keeps g c =
@@ -49,7 +51,8 @@ returns-in_err-x-clause-refused g c =
     let lt : k < length numbers = omega (arith, c.loop-place-test.true, c.len-place-end.ensures, air.plan.numbers.ok) in
     let p = err_from_is_err_and c.from_residual-in_err-x.result c.from_residual-in_err-x.ensures.1 in
     rw (p.1, p.2) (λ ss parts.
-    let part = number_part (ext_reads basis pool.base) pool.nodes air.roots_in.pool.nodes (ext_ids air.roots.items) numbers order.here order.used ss parts k lt in
+    let part = number_part (ext_reads basis pool.base) pool.nodes air.roots_in.pool.nodes (ext_ids air.roots.items) numbers order.here order.used ss parts k
+    lt in
     inr (laws.refuses_then _ _ _ [] ss c.loop-place.invariant.grown (c.in_err-x.ensures.refused ss (of_one (λ u. PartOf u ss) _ part))))
 
 pub push_reserved-requires : goal.push_reserved-requires
@@ -80,7 +83,8 @@ loop-place-preserved g c =
       ready = laws.ready_kept b d kept h.ready;
       long = rw c.push_reserved.ensures.items (omega (arith, size, h.long));
       room = omega (arith, h.room, c.push_reserved.ensures.capacity);
-      made = rw c.push_reserved.ensures.items (table_more (made b) (made d) term numbers table k x h.long (λ t y. made_stays g.met.AB.ExtRing.Algebra.laws over_laws b d t y kept) h.made new);
+      made = rw c.push_reserved.ensures.items (table_more (made b) (made d) term numbers table k x h.long
+          (λ t y. made_stays g.met.AB.ExtRing.Algebra.laws over_laws b d t y kept) h.made new);
     }
 
 pub returns-clause-made : goal.returns-clause-made

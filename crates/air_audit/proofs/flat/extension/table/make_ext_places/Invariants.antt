@@ -14,5 +14,6 @@ invariant-loop-place g l =
       ready : A.ready l.builder;
       long : length l.table.items ≡ l.place;
       room : length l.air.plan.numbers.items ≤ vec_capacity l.table;
-      made : TableMade (IsMade (Means g.AB.ExtRing.Algebra.means g.AB.ExtensionBuilder.ext_ring_of A.reads_as) A.missing l.builder) (term_at (ext_reads g.AB.EF.ExtensionField.basis) l.air.pool) l.air.plan.numbers.items l.table.items l.place;
+      made : TableMade (IsMade (Means g.AB.ExtRing.Algebra.means g.AB.ExtensionBuilder.ext_ring_of A.reads_as) A.missing l.builder)
+          (term_at (ext_reads g.AB.EF.ExtensionField.basis) l.air.pool) l.air.plan.numbers.items l.table.items l.place;
     }

@@ -47,8 +47,10 @@ pub make_places-requires-clause-planned : goal.make_places-requires-clause-plann
 make_places-requires-clause-planned g c =
     let a = c.args.self.now in
     let plan = a.plan.base in
-    subst (λ u. IsPlan base_leaves u.nodes (map (number_at plan.numbers.items) plan.places.items) plan.numbers.items plan.steps.items plan.places.items) (sym c.base.ensures)
-    (plan_of_places base_leaves a.pool.base.nodes (made_of_base a.pool a.roots.items a.plan.numbers.items) plan.numbers.items plan.steps.items plan.places.items a.planned.base)
+    subst (λ u. IsPlan base_leaves u.nodes (map (number_at plan.numbers.items) plan.places.items) plan.numbers.items plan.steps.items plan.places.items)
+    (sym c.base.ensures)
+    (plan_of_places base_leaves a.pool.base.nodes (made_of_base a.pool a.roots.items a.plan.numbers.items) plan.numbers.items plan.steps.items
+    plan.places.items a.planned.base)
 
 pub returns-in_err-base : goal.returns-in_err-base
 returns-in_err-base g c =
@@ -64,10 +66,12 @@ returns-in_err-base g c =
     let some : 0 < length ss = omega (arith, len, not_none _ c.if-is_empty.ensures) in
     let made = made_parts basis p a.roots_in.pool.nodes roots a.plan.numbers.items a.plan.table.items a.planned.order in
     let at = all_of_map (λ i. PartOf (term_at base_reads p.base i) ss) (number_at numbers) plan.places.items
-        (subst (λ v. All (λ i. PartOf (term_at base_reads p.base i) ss) v) (roots_are numbers plan.places.items (made_of_base p roots a.plan.numbers.items) a.planned.base.stand) made) in
+    (subst (λ v. All (λ i. PartOf (term_at base_reads p.base i) ss) v) (roots_are numbers plan.places.items (made_of_base p roots a.plan.numbers.items)
+    a.planned.base.stand) made) in
     rw (q.1, q.2)
     (list_refused g.met.AB.Ring.Algebra.laws g.met.AB.AirBuilder.laws _ c.make_places.new.builder c.in_err-base.field-0.0 ss some c.make_places.ensures.keeps
-    (c.in_err-base.ensures.refused ss (subst (λ u. All (λ k. PartOf (term_at base_reads u (number_at numbers k)) ss) plan.places.items) (sym c.base.ensures) at)))
+    (c.in_err-base.ensures.refused ss (subst (λ u. All (λ k. PartOf (term_at base_reads u (number_at numbers k)) ss) plan.places.items) (sym c.base.ensures)
+    at)))
 
 pub make_ext_places-requires-clause-base : goal.make_ext_places-requires-clause-base
 make_ext_places-requires-clause-base g c =
@@ -94,8 +98,10 @@ returns-in_err-table g c =
     let b = c.args.builder.now in
     let d = c.make_places.new.builder in
     rw (q.1, q.2)
-    (list_refused g.met.AB.Ring.Algebra.laws laws b c.make_ext_places.new.builder e ss some (laws.joined b d c.make_ext_places.new.builder [] [] c.make_places.ensures.keeps c.make_ext_places.ensures.keeps)
-    (⊎_elim (λ (m : e ≡ Memory). inl m) (λ (r : A.refuses d e ss). inr (laws.refuses_then b d e [] ss c.make_places.ensures.keeps r)) (c.in_err-table.ensures.refused ss (over_parts basis p roots))))
+    (list_refused g.met.AB.Ring.Algebra.laws laws b c.make_ext_places.new.builder e ss some
+    (laws.joined b d c.make_ext_places.new.builder [] [] c.make_places.ensures.keeps c.make_ext_places.ensures.keeps)
+    (⊎_elim (λ (m : e ≡ Memory). inl m) (λ (r : A.refuses d e ss). inr (laws.refuses_then b d e [] ss c.make_places.ensures.keeps r))
+    (c.in_err-table.ensures.refused ss (over_parts basis p roots))))
 
 pub assert_roots-requires-clause-of_ring : goal.assert_roots-requires-clause-of_ring
 assert_roots-requires-clause-of_ring g c =
@@ -112,12 +118,17 @@ assert_roots-requires-clause-of_ring g c =
     let term = term_at base_reads a.pool.base in
     let means = Means g.AB.Ring.Algebra.means A.ring_of A.reads_as in
     let means_over = Means g.AB.ExtRing.Algebra.means g.AB.ExtensionBuilder.ext_ring_of A.reads_as in
-    let first = subst (λ u. TableMade (IsMade means A.missing b) (term_at base_reads u) numbers c.in_ok-base.base.items (length numbers)) c.base.ensures c.in_ok-base.ensures.made in
-    let later = table_lasts g.met.AB.Ring.Algebra.laws laws term numbers c.in_ok-base.base.items (length numbers) b d (laws.by_growth b d [] c.make_ext_places.ensures.keeps) first in
-    let made = planned_roots basis a.pool roots numbers a.plan.base.steps.items a.plan.base.places.items a.plan.base_table.items a.plan.numbers.items a.plan.table.items a.roots_in a.planned (IsMade means A.missing d) (IsMade means_over A.missing d) base over
-        (subst (λ t. TableMade (IsMade means A.missing d) term numbers t (length numbers)) (sym c.deref-2.ensures.value) later)
-        (subst (λ t. TableMade (IsMade means_over A.missing d) (term_at (ext_reads basis) a.pool) a.plan.numbers.items t (length a.plan.numbers.items)) (sym c.deref-3.ensures.value) c.in_ok-table.ensures.made) in
-    roots_have g.met.AB.Ring.Algebra.laws g.met.AB.ExtRing.Algebra.laws laws g.met.AB.ExtensionBuilder.ext_laws a.plan.base_table.items a.plan.table.items base over basis a.pool d roots made
+    let first = subst (λ u. TableMade (IsMade means A.missing b) (term_at base_reads u) numbers c.in_ok-base.base.items (length numbers)) c.base.ensures
+    c.in_ok-base.ensures.made in
+    let later = table_lasts g.met.AB.Ring.Algebra.laws laws term numbers c.in_ok-base.base.items (length numbers) b d
+    (laws.by_growth b d [] c.make_ext_places.ensures.keeps) first in
+    let made = planned_roots basis a.pool roots numbers a.plan.base.steps.items a.plan.base.places.items a.plan.base_table.items a.plan.numbers.items
+    a.plan.table.items a.roots_in a.planned (IsMade means A.missing d) (IsMade means_over A.missing d) base over
+    (subst (λ t. TableMade (IsMade means A.missing d) term numbers t (length numbers)) (sym c.deref-2.ensures.value) later)
+    (subst (λ t. TableMade (IsMade means_over A.missing d) (term_at (ext_reads basis) a.pool) a.plan.numbers.items t (length a.plan.numbers.items))
+    (sym c.deref-3.ensures.value) c.in_ok-table.ensures.made) in
+    roots_have g.met.AB.Ring.Algebra.laws g.met.AB.ExtRing.Algebra.laws laws g.met.AB.ExtensionBuilder.ext_laws a.plan.base_table.items a.plan.table.items
+    base over basis a.pool d roots made
 
 pub returns : goal.returns
 returns g c =
@@ -134,14 +145,21 @@ returns g c =
     let term = term_at base_reads a.pool.base in
     let means = Means g.AB.Ring.Algebra.means A.ring_of A.reads_as in
     let means_over = Means g.AB.ExtRing.Algebra.means g.AB.ExtensionBuilder.ext_ring_of A.reads_as in
-    let first = subst (λ u. TableMade (IsMade means A.missing b) (term_at base_reads u) numbers c.in_ok-base.base.items (length numbers)) c.base.ensures c.in_ok-base.ensures.made in
-    let later = table_lasts g.met.AB.Ring.Algebra.laws laws term numbers c.in_ok-base.base.items (length numbers) b d (laws.by_growth b d [] c.make_ext_places.ensures.keeps) first in
-    let made = planned_roots basis a.pool roots numbers a.plan.base.steps.items a.plan.base.places.items a.plan.base_table.items a.plan.numbers.items a.plan.table.items a.roots_in a.planned (IsMade means A.missing d) (IsMade means_over A.missing d) base over
-        (subst (λ t. TableMade (IsMade means A.missing d) term numbers t (length numbers)) (sym c.deref-2.ensures.value) later)
-        (subst (λ t. TableMade (IsMade means_over A.missing d) (term_at (ext_reads basis) a.pool) a.plan.numbers.items t (length a.plan.numbers.items)) (sym c.deref-3.ensures.value) c.in_ok-table.ensures.made) in
+    let first = subst (λ u. TableMade (IsMade means A.missing b) (term_at base_reads u) numbers c.in_ok-base.base.items (length numbers)) c.base.ensures
+    c.in_ok-base.ensures.made in
+    let later = table_lasts g.met.AB.Ring.Algebra.laws laws term numbers c.in_ok-base.base.items (length numbers) b d
+    (laws.by_growth b d [] c.make_ext_places.ensures.keeps) first in
+    let made = planned_roots basis a.pool roots numbers a.plan.base.steps.items a.plan.base.places.items a.plan.base_table.items a.plan.numbers.items
+    a.plan.table.items a.roots_in a.planned (IsMade means A.missing d) (IsMade means_over A.missing d) base over
+    (subst (λ t. TableMade (IsMade means A.missing d) term numbers t (length numbers)) (sym c.deref-2.ensures.value) later)
+    (subst (λ t. TableMade (IsMade means_over A.missing d) (term_at (ext_reads basis) a.pool) a.plan.numbers.items t (length a.plan.numbers.items))
+    (sym c.deref-3.ensures.value) c.in_ok-table.ensures.made) in
     let before = c.args.builder.now in
     let grew = laws.joined before b d [] [] c.make_places.ensures.keeps c.make_ext_places.ensures.keeps in
-    list_asserted g.met.AB.Ring.Algebra.laws laws (AssertsRoot means means_over a.plan.base_table.items a.plan.table.items base over) before d c.assert_roots.new.builder roots (zero_at_ext_roots basis a.pool roots) c.assert_roots.result grew
-    (roots_assert g.met.AB.Ring.Algebra.laws g.met.AB.ExtRing.Algebra.laws laws g.met.AB.ExtensionBuilder.ext_laws a.plan.base_table.items a.plan.table.items base over basis a.pool d roots made)
-    (roots_there g.met.AB.Ring.Algebra.laws g.met.AB.ExtRing.Algebra.laws laws g.met.AB.ExtensionBuilder.ext_laws a.plan.base_table.items a.plan.table.items base over basis a.pool d before (laws.by_growth before d [] grew) roots made)
+    list_asserted g.met.AB.Ring.Algebra.laws laws (AssertsRoot means means_over a.plan.base_table.items a.plan.table.items base over) before d
+    c.assert_roots.new.builder roots (zero_at_ext_roots basis a.pool roots) c.assert_roots.result grew
+    (roots_assert g.met.AB.Ring.Algebra.laws g.met.AB.ExtRing.Algebra.laws laws g.met.AB.ExtensionBuilder.ext_laws a.plan.base_table.items a.plan.table.items
+    base over basis a.pool d roots made)
+    (roots_there g.met.AB.Ring.Algebra.laws g.met.AB.ExtRing.Algebra.laws laws g.met.AB.ExtensionBuilder.ext_laws a.plan.base_table.items a.plan.table.items
+    base over basis a.pool d before (laws.by_growth before d [] grew) roots made)
     c.assert_roots.ensures

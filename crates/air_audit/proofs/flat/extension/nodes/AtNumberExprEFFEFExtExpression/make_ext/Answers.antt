@@ -21,7 +21,8 @@ expression_at-requires g c =
     let air = c.args.self.now.0.now in
     let table = c.args.self.now.1.now in
     let i = c.args.self.now.2 in
-    let made = IsMade (Means g.AB.ExtRing.Algebra.means g.AB.ExtensionBuilder.ext_ring_of A.reads_as) A.missing c.args._builder.now (term_at (ext_reads g.AB.EF.ExtensionField.basis) air.pool i) in
+    let made = IsMade (Means g.AB.ExtRing.Algebra.means g.AB.ExtensionBuilder.ext_ring_of A.reads_as) A.missing c.args._builder.now
+    (term_at (ext_reads g.AB.EF.ExtensionField.basis) air.pool i) in
     let h = c.requires.usable _ (laws.by_growth _ _ _ (laws.same _)) in
     has_within made table c.index.result.now
     (subst (λ p. HasAt made table p) (place_read air.plan.table.items i c.number.result c.index.result.now h.0 c.number.ensures c.index.ensures) h.1)
@@ -33,4 +34,5 @@ returns g c =
     let places = c.args.self.now.0.now.plan.table.items in
     let table = c.args.self.now.1.now in
     made_already (over_extension laws g.met.AB.ExtensionBuilder.ext_laws) _ _ _ (read_is _ table _ c.expression_at.result h.1
-    (number_read places table c.args.self.now.2 c.number.result c.index.result.now c.expression_at.result h.0 c.number.ensures c.index.ensures c.expression_at.ensures))
+    (number_read places table c.args.self.now.2 c.number.result c.index.result.now c.expression_at.result h.0 c.number.ensures c.index.ensures
+    c.expression_at.ensures))
