@@ -40,11 +40,11 @@
 //! What users need of the crates below is passed on here. What differs at a call from Rust is in `CALLING.md`.
 #![tactic(auto)]
 
+pub mod extension;
 pub mod gadgets;
 pub mod handles;
 pub mod printing;
 pub mod rows;
-pub mod written;
 
 pub use air_audit::Air;
 pub use air_audit::AirBuilder;
@@ -88,6 +88,7 @@ pub use air_audit::FieldRing;
 pub use air_audit::FilteredAirBuilder;
 pub use air_audit::FlatAir;
 pub use air_audit::FlatError;
+pub use air_audit::FlatExtAir;
 pub use air_audit::FromVar;
 pub use air_audit::Goldilocks;
 pub use air_audit::Joined;
@@ -112,6 +113,7 @@ pub use air_audit::PrimeField64;
 pub use air_audit::Recorded;
 pub use air_audit::Residue;
 pub use air_audit::RingError;
+pub use air_audit::Root;
 pub use air_audit::RowMajorMatrix;
 pub use air_audit::RowMajorMatrixView;
 pub use air_audit::RowWindow;
@@ -160,6 +162,16 @@ pub use air_audit::traces;
 pub use air_audit::utils;
 pub use air_audit::with_bits;
 pub use air_audit::word_with_bits;
+pub use air_draft::Claim;
+pub use air_draft::Claimed;
+pub use air_draft::Draft;
+pub use air_draft::ExtClaimed;
+pub use air_draft::ExtDraft;
+pub use air_draft::ExtStep;
+pub use air_draft::Step;
+pub use extension::claims::ExtClaims;
+pub use extension::constraints::ExtConstraints;
+pub use extension::expr::ExtExpr;
 pub use handles::claims::Claims;
 pub use handles::columns::Column;
 pub use handles::columns::Columns;
@@ -169,7 +181,3 @@ pub use handles::windows::Window;
 pub use printing::print_audit;
 pub use printing::print_constraints;
 pub use rows::TraceRows;
-pub use written::claim::Claim;
-pub use written::claim::Claimed;
-pub use written::draft::Draft;
-pub use written::step::Step;

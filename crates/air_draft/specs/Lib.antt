@@ -1,0 +1,6 @@
+pub mod DraftTerms
+pub mod DraftEntries
+pub mod Drafts
+pub mod ExtDraftTerms
+pub mod ExtRoots
+pub mod ExtDrafts
