@@ -157,6 +157,8 @@ pub use Rattle.air_builder.specs.Builders
 pub mod Plans
 pub mod Tables
 pub mod FlatAirs
+pub mod ExtPlans
+pub mod FlatExtAirs
 pub mod RootLabels
 pub mod PermutationRows
 pub mod laws

@@ -1,13 +1,15 @@
 -- Expressions by the numbers of a pool.
-use Rattle.std.specs.Prelude.{◌≡◌, ◌<◌, ℕ, List, slice_get, Option, Some, Result, Vec}
+use Rattle.std.specs.Prelude.{◌≡◌, ◌<◌, ℕ, List, length, slice_get, slice_index_or, Option, Some, Result, Vec}
 use Rattle.std.specs.Global.{Global}
 use Rattle.air_field.specs.Term.{Leaf, Term}
 use Rattle.air_core.specs.declared.errors.AirError.{AirError}
-use Rattle.air_builder.specs.Assertion.{Assertion, Base}
+use Rattle.air_builder.specs.Assertion.{Assertion, Base, Extension}
 use Rattle.air_builder.specs.Batches.{AssertsOf, OrMemory}
 use Rattle.air_builder.specs.Builders.{BuilderView, MeansIn}
 use Rattle.air_author.specs.Expressions.{IsUsable, Makes, MakesTerm}
 use Rattle.air_audit.specs.Plans.{number_at}
+use Rattle.air_audit.specs.declared.flat.root.Root.{Root}
+use Rattle.air_audit.specs.declared.flat.root.Root.TheVariants as root
 
 -- in the builder the term has this expression
 abbrev pub IsMade : {S E F : Type 0} → (S → E → Term F → Type 0) → (S → Leaf → Type 0) → S → Term F → E → Type 0
@@ -28,6 +30,17 @@ HasAt P table p = SomeHas P (slice_get table p)
 -- the assertion is that what the expression at place p means is zero
 abbrev pub AssertsAt : {S E F : Type 0} → (S → E → Term F → Type 0) → List E → S → ℕ → Assertion F → Type 0
 AssertsAt means table a p s = HasAt (λ x. AssertsOf Base means (λ t. t) a x s) table p
+
+-- one of two tables has an expression at a root's place, by the list of places of the root's kind, and it has the property
+abbrev pub RootHas : {E X F EF : Type 0} → (E → Type 0) → (X → Type 0) → List ℕ → List ℕ → List E → List X → Root F EF → Type 0
+RootHas P Q base_places places base table (root.Base i) = (i < length base_places) × HasAt P base (slice_index_or base_places i 0)
+RootHas P Q base_places places base table (root.Extension i) = (i < length places) × HasAt Q table (slice_index_or places i 0)
+
+-- the assertion is that what the expression of a root means is zero, in the field or over the extension
+abbrev pub AssertsRoot : {S E X F EF : Type 0} → (S → E → Term F → Type 0) → (S → X → Term F → Type 0) → List ℕ → List ℕ → List E → List X
+    → S → Root F EF → Assertion F → Type 0
+AssertsRoot means means_over base_places places base table a (root.Base i) s = HasAt (λ x. AssertsOf Base means (λ t. t) a x s) base (slice_index_or base_places i 0)
+AssertsRoot means means_over base_places places base table a (root.Extension i) s = HasAt (λ x. AssertsOf Extension means_over (λ t. t) a x s) table (slice_index_or places i 0)
 
 -- the table has at each place before k the expression of the place's number
 abbrev pub TableMade : {E F : Type 0} → (Term F → E → Type 0) → (ℕ → Term F) → List ℕ → List E → ℕ → Type 0

@@ -4,6 +4,7 @@ ghost use Rattle.air_symbolic.specs.BaseLeaves.{base_leaves};
 ghost use Rattle.air_symbolic.specs.Pools.{size};
 ghost use Rattle.air_core.specs.declared.errors.AirError.{AirError};
 ghost use Rattle.air_audit.specs.FlatAirs.{RootsIn, zero_at_roots};
+ghost use Rattle.air_audit.specs.RootLabels.{root_label};
 ghost use Rattle.air_audit.specs.Plans.{IsPlan};
 ghost use Rattle.air_audit.specs.laws.FlatAirs.{RootsIn-prop};
 ghost use Rattle.air_audit.specs.laws.Plans.{IsPlan-prop};
@@ -116,7 +117,9 @@ impl<F: Field> FlatAir<F> {
     }
 
     /// The label of a root; it is empty where the root has none.
-    pub fn label(&self, root: usize) -> &str {
+    pub fn label(&self, root: usize) -> &str
+        ensures { result.now ≡ root_label self.now.labels.items root }
+    {
         label_at(&self.labels, root)
     }
 }

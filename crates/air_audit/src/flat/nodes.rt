@@ -27,11 +27,11 @@ pub(crate) fn expression_at<E: Copy>(table: &[E], place: usize) -> E
 
 /// The expression of a place's number, which the table has.
 #[derive(Drop)]
-struct AtPlace<'a, E, F: Field>(
-    &'a ExprPool<BaseLeaf<F>>,
-    &'a [ExprId<BaseLeaf<F>>],
-    &'a [E],
-    usize,
+pub(crate) struct AtPlace<'a, E, F: Field>(
+    pub(crate) &'a ExprPool<BaseLeaf<F>>,
+    pub(crate) &'a [ExprId<BaseLeaf<F>>],
+    pub(crate) &'a [E],
+    pub(crate) usize,
 );
 
 impl<'a, AB: AirBuilder> Expression<AB> for AtPlace<'a, AB::Expr, AB::F> {

@@ -3,12 +3,13 @@ ghost use Rattle.std.specs.List.{AllZip};
 ghost use Rattle.std.specs.Prelude.{◌≡◌, ◌++◌, ◌∷◌, [], ◌<◌, ℕ, length, slice_index_or, All, None, Some, MatchOption, OnOk, IfOk, IfErr};
 ghost use Rattle.air_symbolic.specs.BaseLeaves.{base_leaves};
 ghost use Rattle.air_symbolic.specs.Nodes.{IsNode};
-ghost use Rattle.air_symbolic.specs.Pools.{size};
+ghost use Rattle.air_symbolic.specs.Pools.{FitsBase, size};
 ghost use Rattle.air_symbolic.specs.Reach.{EachOperand};
 ghost use Rattle.air_symbolic.specs.declared.pools.expr.SymbolicExpr.{SymbolicExpr};
 ghost use Rattle.air_symbolic.specs.declared.leaves.base_leaf.BaseLeaf.{BaseLeaf};
 ghost use Rattle.air_core.specs.declared.errors.AirError.{AirError};
 ghost use Rattle.air_audit.specs.Plans.{number_at, IsPlaceOf, StepMakes, AreSteps, HavePlaces, IsPlan};
+ghost use Rattle.air_audit.specs.ExtPlans.{HaveRoots, IsOrder};
 
 use crate::flat::pushing::push;
 use crate::flat::step::Step;
@@ -151,6 +152,46 @@ fn places_of<A: SymLeaf>(
     Ok(found)
 }
 
+/// The numbers that the roots reach, from the least up, and for each number of the pool the place of it among them.
+pub(crate) fn order_of<A: SymLeaf>(
+    alloc: Global,
+    pool: &ExprPool<A>,
+    roots: &[ExprId<A>],
+) -> Result<(Vec<ExprId<A>>, Vec<usize>), AirError>
+    requires owed { FitsBase A.reads pool.now }
+    requires here { All (λ i. i < size pool.now) roots.now }
+    ensures ordered { IfOk result (λ both. IsOrder (A.reads pool.now.base) pool.now.nodes
+        roots.now both.0.items both.1.items) }
+    ensures refused { IfErr result (λ e. e ≡ AirError.Memory) }
+{
+    let marks = reached_nodes(alloc, pool, roots)?;
+    number_marked(alloc, &marks)
+}
+
+/// The plan of some roots, and for each number of the pool the place of its expression.
+pub(crate) fn plan_with_places<F: Field>(
+    alloc: Global,
+    pool: &ExprPool<BaseLeaf<F>>,
+    roots: &[ExprId<BaseLeaf<F>>],
+) -> Result<(Plan<F>, Vec<usize>), AirError>
+    requires here { All (λ i. i < size pool.now) roots.now }
+    ensures planned { IfOk result (λ both. IsPlan base_leaves pool.now.nodes roots.now
+        both.0.numbers.items both.0.steps.items both.0.places.items) }
+    ensures placed { IfOk result (λ both. HaveRoots (size pool.now) both.0.numbers.items
+        both.1.items roots.now) }
+    ensures refused { IfErr result (λ e. e ≡ AirError.Memory) }
+{
+    let (numbers, table) = order_of(alloc, pool, roots)?;
+    let steps = steps_of(alloc, pool, &numbers, &table)?;
+    let places = places_of(alloc, roots, &table)?;
+    let plan = Plan {
+        numbers,
+        steps,
+        places,
+    };
+    Ok((plan, table))
+}
+
 /// The plan of some roots.
 pub(crate) fn plan_of<F: Field>(
     alloc: Global,
@@ -162,13 +203,6 @@ pub(crate) fn plan_of<F: Field>(
         plan.numbers.items plan.steps.items plan.places.items) }
     ensures refused { IfErr result (λ e. e ≡ AirError.Memory) }
 {
-    let marks = reached_nodes(alloc, pool, roots)?;
-    let (numbers, places) = number_marked(alloc, &marks)?;
-    let steps = steps_of(alloc, pool, &numbers, &places)?;
-    let places = places_of(alloc, roots, &places)?;
-    Ok(Plan {
-        numbers,
-        steps,
-        places,
-    })
+    let (plan, _) = plan_with_places(alloc, pool, roots)?;
+    Ok(plan)
 }

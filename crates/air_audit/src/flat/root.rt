@@ -1,0 +1,10 @@
+//! Roots of both kinds.
+
+use air_symbolic::{BaseLeaf, ExprId, ExtLeaf};
+
+/// What is zero on every row: an expression of the base pool, or one over the extension.
+#[derive(Clone, Copy, Debug, PartialEq, Eq)]
+pub enum Root<F, EF> {
+    Base(ExprId<BaseLeaf<F>>),
+    Extension(ExprId<ExtLeaf<F, EF>>),
+}
