@@ -1,2 +1,4 @@
-pub mod Numbered
+pub mod NumberedTerms
+pub mod Refusing
+pub mod RootsMean
 pub mod Recording

@@ -1,13 +1,10 @@
 -- What a draft says: the terms of its steps, and those that its claims say to be zero.
-use Rattle.std.specs.Prelude.{◌≤◌, ◌^◌, ℕ, List, [], ◌∷◌, ◌++◌, Option, None, Some, slice_index_or, slice_get, ⊤, Vec}
+use Rattle.std.specs.Prelude.{ℕ, List, [], ◌∷◌, ◌++◌, Option, None, Some, slice_index_or, slice_get, Vec}
 use Rattle.std.specs.Global.{Global}
 use Rattle.air_field.specs.Term.{Term, ext_const_term, add_term, sub_term, neg_term, mul_term}
 use Rattle.air_field.specs.Algebra.{bool_check_term}
-use Rattle.air_field.specs.Degree.{degree_by, greatest_degree, cached_weight}
 use Rattle.air_builder.specs.Builders.{less_one_term}
 use Rattle.air_symbolic.specs.BaseLeaves.{base_term}
-use Rattle.air_core.specs.declared.errors.AirError.{AirError}
-use Rattle.air_core.specs.declared.errors.AirError.TheVariants.{Memory, DegreeOverflow, IndexPastTotal}
 use Rattle.air_draft.specs.declared.step.Step.{Step}
 use Rattle.air_draft.specs.declared.step.Step.TheVariants.{Leaf, Add, Sub, Neg, Mul}
 use Rattle.air_draft.specs.declared.claim.Claimed.{Claimed}
@@ -61,19 +58,3 @@ factors_of conditions (Some k) = items_or_none (slice_get conditions k)
 -- what a claim says to be zero: what it claims, times the factors of its conditions
 abbrev pub claim_term : {F : Type 0} → F → (ℕ → Term F) → List (Vec ℕ Global) → Claim → Term F
 claim_term one at conditions c = under_conditions at (factors_of conditions c.condition) (claimed_term one at c.claimed)
-
--- Why expressions aren't made where the steps have numbers below n: memory; a degree past `usize`, where one may be; a
--- number that no step before has.
-abbrev pub MakingRefuses : ℕ → Type 0 → AirError → Type 0
-MakingRefuses n over Memory = ⊤
-MakingRefuses n over DegreeOverflow = over
-MakingRefuses n over (IndexPastTotal index total) = (total ≤ n) × (total ≤ index)
-MakingRefuses n over _ = ⊥
-
--- the term has a cached degree past `usize`
-abbrev pub TermOverflows : {F : Type 0} → Term F → Type 0
-TermOverflows t = 2 ^ 64 ≤ degree_by cached_weight t
-
--- one of the terms has
-abbrev pub SomeOverflows : {F : Type 0} → List (Term F) → Type 0
-SomeOverflows ts = 2 ^ 64 ≤ greatest_degree cached_weight ts

@@ -9,7 +9,8 @@ use Rattle.air_audit.specs.RecordedAirs.{RecordsBaseTerms}
 use Rattle.air_audit.specs.RootLabels.{bytes_or_none}
 use Rattle.air_draft.specs.declared.claim.Claim.{Claim}
 use Rattle.air_draft.specs.declared.draft.Draft.{Draft}
-use Rattle.air_draft.specs.DraftTerms.{step_terms, term_at, claim_term, MakingRefuses, SomeOverflows}
+use Rattle.air_draft.specs.DraftTerms.{step_terms, term_at, claim_term}
+use Rattle.air_draft.specs.Making.{MakingRefuses, SomeOverflows}
 
 -- what each claim says to be zero, in order
 abbrev pub claim_terms : {F : Type 0} → F → Draft F → List (Term F)

@@ -8,7 +8,8 @@ use Rattle.air_builder.specs.Assertion.{Assertion, Base, Extension}
 use Rattle.air_core.specs.declared.errors.AirError.{AirError}
 use Rattle.air_core.specs.declared.errors.AirError.TheVariants.{RowOffset}
 use Rattle.air_recording.specs.Recorded.{RecordsTerm}
-use Rattle.air_draft.specs.DraftTerms.{step_terms, term_at, MakingRefuses, SomeOverflows}
+use Rattle.air_draft.specs.DraftTerms.{step_terms, term_at}
+use Rattle.air_draft.specs.Making.{MakingRefuses, SomeOverflows}
 use Rattle.air_draft.specs.ExtDraftTerms.{ext_step_terms, claim_assertion, asserted_term}
 use Rattle.air_draft.specs.declared.ext_draft.ExtDraft.{ExtDraft}
 

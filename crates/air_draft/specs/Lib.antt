@@ -1,4 +1,5 @@
 pub mod DraftTerms
+pub mod Making
 pub mod DraftEntries
 pub mod Drafts
 pub mod ExtDraftTerms

@@ -3,7 +3,7 @@ ghost use Rattle.std.specs.List.{AllZip};
 ghost use Rattle.std.specs.Prelude.{◌≡◌, length, map, None, IfOk, IfErr, string_bytes};
 ghost use Rattle.air_symbolic.specs.BaseLeaves.{base_reads};
 ghost use Rattle.air_symbolic.specs.Pools.{PoolMeans};
-ghost use Rattle.air_draft.specs.DraftTerms.{MakingRefuses};
+ghost use Rattle.air_draft.specs.Making.{MakingRefuses};
 ghost use Rattle.air_draft.specs.Drafts.{claim_terms, RecordsDraft, claim_label, claim_labels, DraftOverflows, DraftRefuses};
 
 use crate::claim::Claim;

@@ -1,7 +1,7 @@
 //! The AIR that a draft with constraints over an extension makes.
 ghost use Rattle.std.specs.List.{AllZip};
 ghost use Rattle.std.specs.Prelude.{◌≡◌, length, map, max, None, IfOk, IfErr, string_bytes};
-ghost use Rattle.air_draft.specs.DraftTerms.{MakingRefuses};
+ghost use Rattle.air_draft.specs.Making.{MakingRefuses};
 ghost use Rattle.air_draft.specs.Drafts.{claim_labels};
 ghost use Rattle.air_draft.specs.ExtRoots.{RootMeans};
 ghost use Rattle.air_draft.specs.ExtDrafts.{ext_declared_by, RecordsExtDraft, ExtDraftOverflows, ExtDraftRefuses};

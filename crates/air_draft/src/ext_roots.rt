@@ -6,13 +6,14 @@ ghost use Rattle.air_field.specs.declared.errors.RingError.TheVariants.{DegreeOv
 ghost use Rattle.air_symbolic.specs.ExtLeaves.{ext_reads, ext_grows};
 ghost use Rattle.air_symbolic.specs.ExtPool.{BaseHas, BaseMeans};
 ghost use Rattle.air_symbolic.specs.Pools.{IsPool, PoolHas, PoolMeans, Grown};
-ghost use Rattle.air_draft.specs.DraftTerms.{term_at, MakingRefuses, TermOverflows, SomeOverflows};
+ghost use Rattle.air_draft.specs.DraftTerms.{term_at};
+ghost use Rattle.air_draft.specs.Making.{MakingRefuses, TermOverflows, SomeOverflows, MadeAt, RefusedAt};
 ghost use Rattle.air_draft.specs.ExtDraftTerms.{ext_claimed_term, under_lifted, claimed_assertion, claim_assertion, asserted_term};
 ghost use Rattle.air_draft.specs.ExtRoots.{RootMeans};
 
 use crate::claim::{Claim, Claimed, ExtClaimed};
+use crate::numbered::{difference_of, element, found, less_one_of};
 use crate::roots::{factors_of, make_root};
-use crate::steps::found;
 use air_audit::Root;
 use air_core::AirError;
 use air_field::{Algebra, ExtAlgebra, ExtensionField, Field};
@@ -28,24 +29,15 @@ fn make_ext_claimed<F: Field, R: Algebra<F>>(
     requires valid { R.valid ring.old }
     requires all_in { All (R.has ring.old) made.now }
     ensures extended { R.extends ring.old ring.new }
-    ensures made { IfOk result (λ z. R.has ring.new z × ((ts : List (Term F)) →
-        AllZip (R.means ring.old) made.now ts →
-        R.means ring.new z (ext_claimed_term F.ONE (term_at ts) claimed))) }
-    ensures refused { IfErr result (λ e. (ts : List (Term F)) →
-        AllZip (R.means ring.old) made.now ts → MakingRefuses (length made.now)
-        (R.refuses DegreeOverflow (ext_claimed_term F.ONE (term_at ts) claimed)) e) }
+    ensures made { IfOk result (MadeAt R.has R.means ring.old ring.new made.now
+        (λ at. ext_claimed_term F.ONE at claimed)) }
+    ensures refused { IfErr result (RefusedAt R.means R.refuses ring.old made.now
+        (λ at. ext_claimed_term F.ONE at claimed)) }
 {
     match claimed {
-        ExtClaimed::Zero(x) => found(made, x),
-        ExtClaimed::One(x) => {
-            let x = found(made, x)?;
-            let one = ring.constant(F::ONE)?;
-            Ok(ring.sub(x, one)?)
-        }
-        ExtClaimed::Equal(x, y) => {
-            let (x, y) = (found(made, x)?, found(made, y)?);
-            Ok(ring.sub(x, y)?)
-        }
+        ExtClaimed::Zero(x) => element(ring, made, x),
+        ExtClaimed::One(x) => less_one_of(ring, made, x),
+        ExtClaimed::Equal(x, y) => difference_of(ring, made, x, y),
     }
 }
 

@@ -5,13 +5,14 @@ ghost use Rattle.air_field.specs.Term.{Term};
 ghost use Rattle.air_symbolic.specs.ExtLeaves.{ext_reads, ext_grows};
 ghost use Rattle.air_symbolic.specs.ExtPool.{BaseHas, BaseMeans};
 ghost use Rattle.air_symbolic.specs.Pools.{IsPool, PoolHas, PoolMeans, Grown};
-ghost use Rattle.air_draft.specs.DraftTerms.{term_at, MakingRefuses, TermOverflows, SomeOverflows};
+ghost use Rattle.air_draft.specs.DraftTerms.{term_at};
+ghost use Rattle.air_draft.specs.Making.{MakingRefuses, TermOverflows, SomeOverflows};
 ghost use Rattle.air_draft.specs.ExtDraftTerms.{ext_step_term, ext_step_terms};
 
 use crate::ext_step::ExtStep;
-use crate::steps::found;
+use crate::numbered::{difference_of, found, negative_of, product_of, sum_of};
 use air_core::AirError;
-use air_field::{Algebra, ExtensionField, Field};
+use air_field::{ExtensionField, Field};
 use air_symbolic::{BaseLeaf, ExprId, ExprPool, ExtLeaf};
 use std::alloc::Global;
 
@@ -26,6 +27,7 @@ fn make_ext_step<F: Field, EF: ExtensionField<F>>(
     requires base_in { All (BaseHas EF.basis pool.old) base.now }
     requires made_in { All (PoolHas (ext_reads EF.basis) pool.old) made.now }
     ensures grown { Grown ext_grows (ext_reads EF.basis) pool.old pool.new }
+    ensures here { IfOk result (PoolHas (ext_reads EF.basis) pool.new) }
     ensures made { IfOk result (λ z. (bs ts : List (Term F)) →
         AllZip (BaseMeans F.ring EF.basis pool.old) base.now bs →
         AllZip (PoolMeans (ext_reads EF.basis) F.ring pool.old) made.now ts →
@@ -43,22 +45,10 @@ fn make_ext_step<F: Field, EF: ExtensionField<F>>(
         }
         ExtStep::Variable(v) => Ok(pool.variable(v)?),
         ExtStep::Constant(c) => Ok(pool.ext_constant(c)?),
-        ExtStep::Add(x, y) => {
-            let (x, y) = (found(made, x)?, found(made, y)?);
-            Ok(Algebra::add(pool, x, y)?)
-        }
-        ExtStep::Sub(x, y) => {
-            let (x, y) = (found(made, x)?, found(made, y)?);
-            Ok(Algebra::sub(pool, x, y)?)
-        }
-        ExtStep::Neg(x) => {
-            let x = found(made, x)?;
-            Ok(Algebra::neg(pool, x)?)
-        }
-        ExtStep::Mul(x, y) => {
-            let (x, y) = (found(made, x)?, found(made, y)?);
-            Ok(Algebra::mul(pool, x, y)?)
-        }
+        ExtStep::Add(x, y) => sum_of(pool, made, x, y),
+        ExtStep::Sub(x, y) => difference_of(pool, made, x, y),
+        ExtStep::Neg(x) => negative_of(pool, made, x),
+        ExtStep::Mul(x, y) => product_of(pool, made, x, y),
     }
 }
 

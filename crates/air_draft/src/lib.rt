@@ -13,13 +13,12 @@ pub mod ext_draft;
 mod ext_roots;
 pub mod ext_step;
 mod ext_steps;
+mod numbered;
 mod roots;
 pub mod step;
 mod steps;
 
-pub use claim::Claim;
-pub use claim::Claimed;
-pub use claim::ExtClaimed;
+pub use claim::{Claim, Claimed, ExtClaimed};
 pub use draft::Draft;
 pub use ext_draft::ExtDraft;
 pub use ext_step::ExtStep;

@@ -2,19 +2,20 @@
 ghost use Rattle.std.specs.Prelude.{◌≡◌, ℕ, List, length, slice_get, map, All, Some, IfOk, IfErr};
 ghost use Rattle.std.specs.List.{AllZip};
 ghost use Rattle.air_field.specs.Term.{Term};
-ghost use Rattle.air_draft.specs.DraftTerms.{term_at, claimed_term, under_conditions, factors_of, claim_term, MakingRefuses, SomeOverflows};
+ghost use Rattle.air_draft.specs.DraftTerms.{term_at, claimed_term, under_conditions, factors_of, claim_term};
+ghost use Rattle.air_draft.specs.Making.{MakingRefuses, SomeOverflows, MadeAt, RefusedAt};
 ghost use Rattle.air_field.specs.declared.errors.RingError.TheVariants.{DegreeOverflow};
 ghost use Rattle.air_symbolic.specs.BaseLeaves.{base_reads, base_grows};
 ghost use Rattle.air_symbolic.specs.Pools.{IsPool, PoolHas, PoolMeans, Grown};
 
 use crate::claim::{Claim, Claimed};
-use crate::steps::found;
+use crate::numbered::{bool_check_of, difference_of, element, found, less_one_of};
 use air_core::AirError;
 use air_field::{Algebra, Field};
 use air_symbolic::{BaseLeaf, ExprId, ExprPool};
 use std::alloc::Global;
 
-/// What a claim says to be zero, without its conditions.
+/// What a claim says to be zero, without its conditions. A claim of expressions over an extension names none here.
 fn make_claimed<F: Field, R: Algebra<F>>(
     ring: &mut R,
     made: &[R::Elem],
@@ -23,28 +24,16 @@ fn make_claimed<F: Field, R: Algebra<F>>(
     requires valid { R.valid ring.old }
     requires all_in { All (R.has ring.old) made.now }
     ensures extended { R.extends ring.old ring.new }
-    ensures made { IfOk result (λ z. R.has ring.new z × ((ts : List (Term F)) →
-        AllZip (R.means ring.old) made.now ts →
-        R.means ring.new z (claimed_term F.ONE (term_at ts) claimed))) }
-    ensures refused { IfErr result (λ e. (ts : List (Term F)) →
-        AllZip (R.means ring.old) made.now ts → MakingRefuses (length made.now)
-        (R.refuses DegreeOverflow (claimed_term F.ONE (term_at ts) claimed)) e) }
+    ensures made { IfOk result (MadeAt R.has R.means ring.old ring.new made.now
+        (λ at. claimed_term F.ONE at claimed)) }
+    ensures refused { IfErr result (RefusedAt R.means R.refuses ring.old made.now
+        (λ at. claimed_term F.ONE at claimed)) }
 {
     match claimed {
-        Claimed::Zero(x) => found(made, x),
-        Claimed::One(x) => {
-            let x = found(made, x)?;
-            let one = ring.constant(F::ONE)?;
-            Ok(ring.sub(x, one)?)
-        }
-        Claimed::Bool(x) => {
-            let x = found(made, x)?;
-            Ok(ring.bool_check(x)?)
-        }
-        Claimed::Equal(x, y) => {
-            let (x, y) = (found(made, x)?, found(made, y)?);
-            Ok(ring.sub(x, y)?)
-        }
+        Claimed::Zero(x) => element(ring, made, x),
+        Claimed::One(x) => less_one_of(ring, made, x),
+        Claimed::Bool(x) => bool_check_of(ring, made, x),
+        Claimed::Equal(x, y) => difference_of(ring, made, x, y),
         Claimed::Extension(of) => Err(AirError::IndexPastTotal {
             index: of.first_operand(),
             total: 0,
@@ -102,13 +91,10 @@ pub(crate) fn make_root<F: Field, R: Algebra<F>>(
     requires valid { R.valid ring.old }
     requires all_in { All (R.has ring.old) made.now }
     ensures extended { R.extends ring.old ring.new }
-    ensures made { IfOk result (λ z. R.has ring.new z × ((ts : List (Term F)) →
-        AllZip (R.means ring.old) made.now ts → R.means ring.new z
-        (under_conditions (term_at ts) factors.now (claimed_term F.ONE (term_at ts) claimed)))) }
-    ensures refused { IfErr result (λ e. (ts : List (Term F)) →
-        AllZip (R.means ring.old) made.now ts → MakingRefuses (length made.now)
-        (R.refuses DegreeOverflow (under_conditions (term_at ts) factors.now
-        (claimed_term F.ONE (term_at ts) claimed))) e) }
+    ensures made { IfOk result (MadeAt R.has R.means ring.old ring.new made.now
+        (λ at. under_conditions at factors.now (claimed_term F.ONE at claimed))) }
+    ensures refused { IfErr result (RefusedAt R.means R.refuses ring.old made.now
+        (λ at. under_conditions at factors.now (claimed_term F.ONE at claimed))) }
 {
     let x = make_claimed(ring, made, claimed)?;
     make_under(ring, made, factors, x)

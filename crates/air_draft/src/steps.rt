@@ -4,27 +4,16 @@ ghost use Rattle.std.specs.List.{AllZip};
 ghost use Rattle.air_field.specs.Term.{Term};
 ghost use Rattle.air_symbolic.specs.BaseLeaves.{base_reads, base_grows};
 ghost use Rattle.air_symbolic.specs.Pools.{IsPool, PoolHas, PoolMeans, Grown};
-ghost use Rattle.air_draft.specs.DraftTerms.{term_at, step_term, step_terms, MakingRefuses, TermOverflows, SomeOverflows};
+ghost use Rattle.air_draft.specs.DraftTerms.{term_at, step_term, step_terms};
+ghost use Rattle.air_draft.specs.Making.{MakingRefuses, SomeOverflows, MadeAt, RefusedAt};
+ghost use Rattle.air_symbolic.specs.PoolRefusals.{PoolRefuses};
 
+use crate::numbered::{difference_of, negative_of, product_of, sum_of};
 use crate::step::Step;
 use air_core::AirError;
-use air_field::{Algebra, Field};
+use air_field::Field;
 use air_symbolic::{BaseLeaf, ExprId, ExprPool};
 use std::alloc::Global;
-
-/// What has this number.
-pub(crate) fn found<E: Copy>(made: &[E], number: usize) -> Result<E, AirError>
-    ensures found { IfOk result (λ x. slice_get made.now number ≡ Some x) }
-    ensures refused { IfErr result (MakingRefuses (length made.now) ⊥) }
-{
-    match made.get(number) {
-        Some(x) => Ok(*x),
-        None => Err(AirError::IndexPastTotal {
-            index: number,
-            total: made.len(),
-        }),
-    }
-}
 
 /// The expression of a step, of those of the steps before it.
 fn make_step<F: Field>(
@@ -32,33 +21,20 @@ fn make_step<F: Field>(
     made: &[ExprId<BaseLeaf<F>>],
     step: Step<F>,
 ) -> Result<ExprId<BaseLeaf<F>>, AirError>
-    requires { All (PoolHas base_reads pool.old) made.now }
+    requires pool { IsPool base_reads pool.old }
+    requires all_in { All (PoolHas base_reads pool.old) made.now }
     ensures grown { Grown base_grows base_reads pool.old pool.new }
-    ensures made { IfOk result (λ z. (ts : List (Term F)) →
-        AllZip (PoolMeans base_reads F.ring pool.old) made.now ts →
-        PoolMeans base_reads F.ring pool.new z (step_term (term_at ts) step)) }
-    ensures refused { IfErr result (λ e. (ts : List (Term F)) →
-        AllZip (PoolMeans base_reads F.ring pool.old) made.now ts →
-        MakingRefuses (length made.now) (TermOverflows (step_term (term_at ts) step)) e) }
+    ensures made { IfOk result (MadeAt (PoolHas base_reads) (PoolMeans base_reads F.ring) pool.old
+        pool.new made.now (λ at. step_term at step)) }
+    ensures refused { IfErr result (RefusedAt (PoolMeans base_reads F.ring) PoolRefuses pool.old
+        made.now (λ at. step_term at step)) }
 {
     match step {
         Step::Leaf(leaf) => Ok(pool.leaf_expr(leaf)?),
-        Step::Add(x, y) => {
-            let (x, y) = (found(made, x)?, found(made, y)?);
-            Ok(Algebra::add(pool, x, y)?)
-        }
-        Step::Sub(x, y) => {
-            let (x, y) = (found(made, x)?, found(made, y)?);
-            Ok(Algebra::sub(pool, x, y)?)
-        }
-        Step::Neg(x) => {
-            let x = found(made, x)?;
-            Ok(Algebra::neg(pool, x)?)
-        }
-        Step::Mul(x, y) => {
-            let (x, y) = (found(made, x)?, found(made, y)?);
-            Ok(Algebra::mul(pool, x, y)?)
-        }
+        Step::Add(x, y) => sum_of(pool, made, x, y),
+        Step::Sub(x, y) => difference_of(pool, made, x, y),
+        Step::Neg(x) => negative_of(pool, made, x),
+        Step::Mul(x, y) => product_of(pool, made, x, y),
     }
 }
 

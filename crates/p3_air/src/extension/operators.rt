@@ -57,6 +57,13 @@ impl<'a, F: Field, EF: ExtensionField<F>> AddAssign<ExtExpr<'a, F, EF>> for ExtE
     }
 }
 
+impl<'a, F: Field, EF: ExtensionField<F>> AddAssign<Expr<'a, F>> for ExtExpr<'a, F, EF> {
+    fn add_assign(&mut self, x: Expr<'a, F>) {
+        let sum = *self + x;
+        self.number = sum.number;
+    }
+}
+
 impl<'a, F: Field, EF: ExtensionField<F>> Sub<ExtExpr<'a, F, EF>> for ExtExpr<'a, F, EF> {
     type Output = ExtExpr<'a, F, EF>;
 
@@ -109,6 +116,13 @@ impl<'a, F: Field, EF: ExtensionField<F>> SubAssign<ExtExpr<'a, F, EF>> for ExtE
     }
 }
 
+impl<'a, F: Field, EF: ExtensionField<F>> SubAssign<Expr<'a, F>> for ExtExpr<'a, F, EF> {
+    fn sub_assign(&mut self, x: Expr<'a, F>) {
+        let difference = *self - x;
+        self.number = difference.number;
+    }
+}
+
 impl<'a, F: Field, EF: ExtensionField<F>> Mul<ExtExpr<'a, F, EF>> for ExtExpr<'a, F, EF> {
     type Output = ExtExpr<'a, F, EF>;
 
@@ -157,6 +171,13 @@ impl<'a, F: Field, EF: ExtensionField<F>> Mul<ExtExpr<'a, F, EF>> for u64 {
 impl<'a, F: Field, EF: ExtensionField<F>> MulAssign<ExtExpr<'a, F, EF>> for ExtExpr<'a, F, EF> {
     fn mul_assign(&mut self, other: ExtExpr<'a, F, EF>) {
         let product = *self * other;
+        self.number = product.number;
+    }
+}
+
+impl<'a, F: Field, EF: ExtensionField<F>> MulAssign<Expr<'a, F>> for ExtExpr<'a, F, EF> {
+    fn mul_assign(&mut self, x: Expr<'a, F>) {
+        let product = *self * x;
         self.number = product.number;
     }
 }

@@ -1,7 +1,10 @@
-use Rattle.std.proofs.Common.{get_or, subst, sym}
+use Rattle.std.proofs.Common.{◌+◌, length, get_or, subst, sym, arith}
+use Rattle.std.proofs.lemmas.Result.{err_from_is_err_and}
+use Rattle.air_field.specs.Part.{Part}
 use Rattle.std.proofs.lemmas.List.{take_all}
 use Rattle.air_draft.specs.DraftTerms.{term_at, under_conditions}
-use Rattle.air_draft.proofs.Numbered.{All-found, term-found, under_conditions-more}
+use Rattle.air_draft.proofs.NumberedTerms.{All-found, term-found, under_conditions-more}
+use Rattle.air_draft.proofs.Refusing.{refuses_more, ring_refuses, Part-under_first}
 use Rattle.air_draft.proofs.roots.make_under.Goals as goal
 
 pub mul-requires-clause-x_in : goal.mul-requires-clause-x_in
@@ -38,3 +41,27 @@ returns-clause-made g c =
           (take_all c.loop-factor.factor-index c.args.factors.now c.loop-factor-test.false)
           (h.made ts t all m),
     )
+
+pub returns-in_err-factor-clause-refused : goal.returns-in_err-factor-clause-refused
+returns-in_err-factor-clause-refused g c =
+    let p = err_from_is_err_and c.from_residual.result c.from_residual.ensures.1 in
+    let n = length c.args.made.now in
+    rw (p.1, p.2) (λ ts t all m. refuses_more n n _ (omega arith) absurd c.in_err-factor.ensures.refused)
+
+pub returns-in_err-product-clause-refused : goal.returns-in_err-product-clause-refused
+returns-in_err-product-clause-refused g c =
+    let A = g.R.Algebra in
+    let laws = g.met.R.Algebra.laws in
+    let ring = c.args.ring.now in
+    let h = c.loop-factor.invariant in
+    let i = c.loop-factor.factor-index in
+    let factors = c.args.factors.now in
+    let number = get_or factors i 0 in
+    let p = err_from_is_err_and c.from_residual-in_err-product.result c.from_residual-in_err-product.ensures.1 in
+    rw (p.1, p.2) (λ ts t all m.
+        let at = term_at ts in
+        let whole = under_conditions at factors t in
+        let meant = term-found (A.means ring) c.args.made.now ts number c.in_ok-factor.factor all c.in_ok-factor.ensures.found in
+        let refused = c.in_err-product.ensures.refused _ _ (laws.means_stays _ _ _ _ h.extended meant) (h.made ts t all m) in
+        let part = subst (λ u. Part u whole) (under_conditions-more at factors i t c.loop-factor-test.true) (Part-under_first at factors (i + 1) t) in
+        ring_refuses A.refuses (length c.args.made.now) _ whole (laws.refuses_whole _ _ _ part refused))

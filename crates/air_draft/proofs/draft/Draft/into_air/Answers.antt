@@ -3,7 +3,7 @@ use Rattle.std.proofs.lemmas.Result.{err_from_is_err_and}
 use Rattle.air_symbolic.specs.BaseLeaves.{base_reads}
 use Rattle.air_symbolic.specs.Pools.{PoolMeans, size}
 use Rattle.air_draft.specs.Drafts.{claim_terms}
-use Rattle.air_draft.proofs.Numbered.{All-beside}
+use Rattle.air_draft.proofs.NumberedTerms.{All-beside}
 use Rattle.air_draft.proofs.Recording.{records_terms}
 use Rattle.air_draft.proofs.draft.Draft.into_air.Goals as goal
 

@@ -4,7 +4,7 @@ use Rattle.std.proofs.lemmas.Slice.Zip.{AllZip-long}
 use Rattle.air_symbolic.specs.BaseLeaves.{base_reads}
 use Rattle.air_symbolic.specs.Pools.{PoolMeans, PoolHas}
 use Rattle.air_draft.specs.DraftTerms.{step_terms}
-use Rattle.air_draft.proofs.Numbered.{All-beside, step_terms-length}
+use Rattle.air_draft.proofs.NumberedTerms.{All-beside, step_terms-length}
 use Rattle.air_draft.proofs.draft.Draft.make.Goals as goal
 
 pub make_roots-requires-clause-all_in : goal.make_roots-requires-clause-all_in

@@ -8,9 +8,13 @@ use Rattle.std.proofs.lemmas.Slice.Zip.{all_zipped_more}
 use Rattle.std.proofs.lemmas.Option.{slice_get_within, get_or_from_slice_get}
 use Rattle.air_field.specs.Term.{Term, ext_const_term, mul_term}
 use Rattle.air_field.specs.Algebra.{AlgebraLaws}
+use Rattle.air_field.specs.Ring.{CommRing}
+use Rattle.air_field.specs.Extension.{Basis}
+use Rattle.air_symbolic.specs.ExtPool.{ExtNodes, ExtGrown, BaseMeans}
+use Rattle.air_symbolic.specs.laws.ExtPool.{ext_keeps_base}
 use Rattle.air_builder.specs.laws.Zips.{AllZip-weaker}
-use Rattle.air_draft.specs.DraftTerms.{term_at, step_term, terms_after, step_terms, under_conditions}
-use Rattle.air_draft.specs.declared.step.Step.{Step}
+use Rattle.air_draft.specs.DraftTerms.{term_at, terms_after, under_conditions}
+use Rattle.air_draft.specs.ExtDraftTerms.{under_lifted}
 
 -- what is true of each is true of what has a number
 pub All-found : {A : Type 0} (P : A → Type 0) (xs : List A) (i : ℕ) (x : A) → All P xs → slice_get xs i ≡ Some x → P x
@@ -48,15 +52,15 @@ AllZip-more R f xs cs i d x lt h new =
     (all_zipped_more R xs (map f (take i cs)) x (f (get_or cs i d)) h new)
 
 -- the terms after one step more
-terms_after-push : {F : Type 0} (before : List (Term F)) (ss : List (Step F)) (s : Step F)
-    → terms_after before (ss ++ s ∷ []) ≡ terms_after before ss ++ step_term (term_at (terms_after before ss)) s ∷ []
-terms_after-push before [] s = refl
-terms_after-push before (u ∷ ss) s = terms_after-push (before ++ step_term (term_at before) u ∷ []) ss s
+terms_after-push : {F S : Type 0} (term : (ℕ → Term F) → S → Term F) (before : List (Term F)) (ss : List S) (s : S)
+    → terms_after term before (ss ++ s ∷ []) ≡ terms_after term before ss ++ term (term_at (terms_after term before ss)) s ∷ []
+terms_after-push term before [] s = refl
+terms_after-push term before (u ∷ ss) s = terms_after-push term (before ++ term (term_at before) u ∷ []) ss s
 
-pub step_terms-more : {F : Type 0} (ss : List (Step F)) (i : ℕ) (s : Step F) → i < length ss → s ≡ get_or ss i s
-    → step_terms (take (i + 1) ss) ≡ step_terms (take i ss) ++ step_term (term_at (step_terms (take i ss))) s ∷ []
-step_terms-more ss i s lt is =
-    ap step_terms (take_more ss i s lt ∙ ap (λ v. take i ss ++ v ∷ []) (sym is)) ∙ terms_after-push [] (take i ss) s
+pub terms_after-more : {F S : Type 0} (term : (ℕ → Term F) → S → Term F) (ss : List S) (i : ℕ) (s : S) → i < length ss → s ≡ get_or ss i s
+    → terms_after term [] (take (i + 1) ss) ≡ terms_after term [] (take i ss) ++ term (term_at (terms_after term [] (take i ss))) s ∷ []
+terms_after-more term ss i s lt is =
+    ap (terms_after term []) (take_more ss i s lt ∙ ap (λ v. take i ss ++ v ∷ []) (sym is)) ∙ terms_after-push term [] (take i ss) s
 
 -- a term under one condition more
 under_conditions-push : {F : Type 0} (at : ℕ → Term F) (cs : List ℕ) (c : ℕ) (t : Term F)
@@ -76,13 +80,31 @@ pub all_mean_still : {R E F X : Type 0} {valid : R → Type 0} {has : R → E �
 all_mean_still {means = means} laws p q xs ts g h =
     AllZip-weaker (means p) (means q) (λ x t m. laws.means_stays p q x t g m) xs ts h
 
+-- and so do those of the base
+pub base_mean_still : {F EF : Type 0} (r : CommRing F) (basis : Basis F EF) (p q : ExtNodes F EF) (xs : List ℕ) (ts : List (Term F))
+    → ExtGrown basis p q → AllZip (BaseMeans r basis p) xs ts → AllZip (BaseMeans r basis q) xs ts
+base_mean_still r basis p q xs ts g h =
+    AllZip-weaker (BaseMeans r basis p) (BaseMeans r basis q) (λ x t m. (ext_keeps_base r basis).base_means_stays p q x t g m) xs ts h
+
 -- each step has one term
-terms_after-length : {F : Type 0} (before : List (Term F)) (ss : List (Step F)) → length (terms_after before ss) ≡ length before + length ss
-terms_after-length before [] = omega arith
-terms_after-length before (s ∷ ss) =
-    let more = terms_after-length (before ++ step_term (term_at before) s ∷ []) ss in
-    let one = length-append before (step_term (term_at before) s ∷ []) in
+terms_after-length : {F S : Type 0} (term : (ℕ → Term F) → S → Term F) (before : List (Term F)) (ss : List S)
+    → length (terms_after term before ss) ≡ length before + length ss
+terms_after-length term before [] = omega arith
+terms_after-length term before (s ∷ ss) =
+    let more = terms_after-length term (before ++ term (term_at before) s ∷ []) ss in
+    let one = length-append before (term (term_at before) s ∷ []) in
     omega (arith, more, one)
 
-pub step_terms-length : {F : Type 0} (ss : List (Step F)) → length (step_terms ss) ≡ length ss
-step_terms-length ss = let all = terms_after-length [] ss in omega (arith, all)
+pub terms-length : {F S : Type 0} (term : (ℕ → Term F) → S → Term F) (ss : List S) → length (terms_after term [] ss) ≡ length ss
+terms-length term ss = let all = terms_after-length term [] ss in omega (arith, all)
+
+-- a term under one lifted condition more
+under_lifted-push : {F : Type 0} (at : ℕ → Term F) (cs : List ℕ) (c : ℕ) (t : Term F)
+    → under_lifted at (cs ++ c ∷ []) t ≡ mul_term (under_lifted at cs t) (at c)
+under_lifted-push at [] c t = refl
+under_lifted-push at (b ∷ cs) c t = under_lifted-push at cs c (mul_term t (at b))
+
+pub under_lifted-more : {F : Type 0} (at : ℕ → Term F) (cs : List ℕ) (i : ℕ) (t : Term F) → i < length cs
+    → under_lifted at (take (i + 1) cs) t ≡ mul_term (under_lifted at (take i cs) t) (at (get_or cs i 0))
+under_lifted-more at cs i t lt =
+    ap (λ v. under_lifted at v t) (take_more cs i 0 lt) ∙ under_lifted-push at (take i cs) (get_or cs i 0) t
