@@ -1,5 +1,5 @@
 -- What is refused of a part is refused of the whole.
-use Rattle.std.proofs.Common.{◌≡◌, ◌<◌, ◌≤◌, ◌^◌, ℕ, zero, suc, List, [], ◌∷◌, ◌++◌, get_or, take, length, map, max, sym, subst, arith}
+use Rattle.std.proofs.Common.{◌≡◌, ◌<◌, ◌≤◌, ℕ, zero, suc, List, [], ◌∷◌, ◌++◌, get_or, take, length, map, max, sym, subst, arith}
 use Rattle.std.proofs.Math.Nat.{le-max_left, le-max_right, max-le}
 use Rattle.air_field.specs.Term.{Leaf, Term}
 use Rattle.air_field.specs.Degree.{degree_by, greatest_degree, cached_weight}

@@ -1,6 +1,8 @@
 //! The AIR that a draft with constraints over an extension makes.
 ghost use Rattle.std.specs.List.{AllZip};
 ghost use Rattle.std.specs.Prelude.{◌≡◌, length, map, max, None, IfOk, IfErr, string_bytes};
+ghost use Rattle.air_symbolic.specs.ExtLeaves.{ext_reads};
+ghost use Rattle.air_symbolic.specs.Pools.{IsPool};
 ghost use Rattle.air_draft.specs.Making.{MakingRefuses};
 ghost use Rattle.air_draft.specs.Drafts.{claim_labels};
 ghost use Rattle.air_draft.specs.ExtRoots.{RootMeans};
@@ -28,6 +30,7 @@ struct Made<F: Field, EF: ExtensionField<F>> {
 impl<F: Field, EF: ExtensionField<F>> ExtDraft<F, EF> {
     // The expressions and labels of its claims.
     fn make(&self) -> Result<Made<F, EF>, AirError>
+        ensures pool { IfOk result (λ m. IsPool (ext_reads EF.basis) m.pool) }
         ensures means { IfOk result (λ m. AllZip (RootMeans F.ring EF.basis m.pool) m.roots.items
             (ext_declared_by F.ONE EF.basis self.now)) }
         ensures labels { IfOk result (λ m. map string_bytes m.labels.items

@@ -20,12 +20,14 @@
 //! Where that is Ok, and the report lists nothing, each constraint of the AIR is zero at each row. [`print_audit`] prints
 //! what an audit found, and [`print_constraints`] the constraints as people read them.
 //!
-//! A call writes an entry of a [`Draft`], or a few. What AIR a draft makes is proved ([`Draft::into_air`]); that a call
-//! writes its own entries is tested, since no contract sees into the cell that the handles share.
+//! A call writes an entry of a [`Draft`], or a few. What AIR a draft makes is proved ([`Draft::into_air`],
+//! [`ExtDraft::into_air`]); that a call writes its own entries is tested, since no contract sees into the cells that the
+//! handles share.
 //!
 //! | to | call | its promise |
 //! |---|---|---|
 //! | write an AIR in code alone | [`Constraints`] | the AIR records what was written down |
+//! | the same over an extension | [`ExtConstraints`] | the same, of constraints of both kinds |
 //! | write one that declares its list | [`author`], [`utils`], [`BaseAir`] | `eval` asserts just the declared list on each builder |
 //! | make a trace | [`trace_of_rows`], [`TraceRows`], [`with_bits`], [`word_with_bits`] | the rows and numbers that were given |
 //! | check it | [`check_constraints`], [`check_all_constraints`] | the first fault; each row and constraint not zero |

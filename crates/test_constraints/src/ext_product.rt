@@ -4,8 +4,8 @@ use crate::ext_shown::{print_ext_shown, recorded_shown};
 use p3_air::author::*;
 use p3_air::{
     Air, AirLayout, BabyBear, BinomialExtensionField as Ext, ConstraintFailure,
-    DebugConstraintBuilder, ExtConstraints, ExtensionField, FlatExtAir, Recorded, RowMajorMatrix,
-    RowMajorMatrixView, SymbolicAirBuilder, ViewPair, finish_recording,
+    DebugConstraintBuilder, ExtConstraints, ExtensionField, FlatExtAir, Permutation, Recorded,
+    RowMajorMatrix, RowMajorMatrixView, SymbolicAirBuilder, ViewPair, finish_recording,
     get_all_symbolic_constraints, record_these, trace_of_rows,
 };
 use std::alloc::Global;
@@ -41,9 +41,17 @@ fn layout() -> AirLayout {
     }
 }
 
+/// The AIR's constraints, as it asserts them.
+fn by_air<F: Field, EF: ExtensionField<F>>(
+    alloc: Global,
+    air: &FlatExtAir<F, EF>,
+) -> Result<Recorded<F, EF>, AirError> {
+    get_all_symbolic_constraints(alloc, air, layout())
+}
+
 /// The same constraints, recorded of an author's values.
-fn by_values(alloc: Global) -> Result<Recorded<BabyBear, Ext>, AirError> {
-    let mut builder: SymbolicAirBuilder<BabyBear, Ext> = SymbolicAirBuilder::new(alloc, layout())?;
+fn by_values<F: Field, EF: ExtensionField<F>>(alloc: Global) -> Result<Recorded<F, EF>, AirError> {
+    let mut builder: SymbolicAirBuilder<F, EF> = SymbolicAirBuilder::new(alloc, layout())?;
     let more = permutation_current(0) * (challenge(0) + current(0));
     let constraints = (
         When(FirstRow, ExtIsOne(permutation_current(0))),
@@ -58,8 +66,8 @@ fn by_values(alloc: Global) -> Result<Recorded<BabyBear, Ext>, AirError> {
 /// Whether both ways record the same, in pools of as many nodes.
 fn compared(alloc: Global) -> Result<bool, AirError> {
     let air = running_product(alloc)?;
-    let one = get_all_symbolic_constraints(alloc, &air, layout())?;
-    let other = by_values(alloc)?;
+    let one = by_air(alloc, &air)?;
+    let other: Recorded<BabyBear, Ext> = by_values(alloc)?;
     let (text, values_text) = (recorded_shown(alloc, &one)?, recorded_shown(alloc, &other)?);
     Ok(
         text.as_str() == values_text.as_str()
@@ -105,28 +113,26 @@ fn pair_of<'a, T: Copy>(trace: &'a RowMajorMatrix<T>, row: usize) -> ViewPair<'a
 }
 
 /// The constraints that fail at a row of four.
-fn failures_at(
+fn failures_at<F: Field, EF: ExtensionField<F> + 'static>(
     alloc: Global,
-    air: &Product,
-    traces: &Traces,
-    challenge: Ext,
-    exposed: Ext,
+    air: &FlatExtAir<F, EF>,
+    main: &RowMajorMatrix<F>,
+    beside: Permutation<'_, EF>,
     row: usize,
 ) -> Result<Vec<ConstraintFailure>, AirError> {
     let none = RowMajorMatrixView::new_row(&[]);
-    let (challenges, values) = ([challenge], [exposed]);
     let mut builder = DebugConstraintBuilder::new_with_permutation(
         alloc,
         row,
-        pair_of(&traces.main, row),
+        pair_of(main, row),
         ViewPair::new(none, none),
         &[],
-        BabyBear::from_bool(row == 0),
-        BabyBear::from_bool(row == 3),
-        BabyBear::from_bool(row != 3),
-        pair_of(&traces.products, row),
-        &challenges,
-        &values,
+        F::from_bool(row == 0),
+        F::from_bool(row == 3),
+        F::from_bool(row != 3),
+        pair_of(beside.trace, row),
+        beside.challenges,
+        beside.values,
         Vec::new(alloc),
     );
     air.eval(&mut builder)?;
@@ -140,9 +146,11 @@ fn report_of(alloc: Global, numbers: [u64; 4], last: u64) -> Result<String, AirE
     let exposed = Ext::from_basis_coefficients(&[52427, 13964, 1388, 61].map(BabyBear::new));
     let air = running_product(alloc)?;
     let traces = traces_of(alloc, challenge, numbers, last)?;
+    let (challenges, values) = ([challenge], [exposed]);
+    let beside = Permutation::new(&traces.products, &challenges, &values);
     let mut text = String::new(alloc);
     for row in 0..4 {
-        let failures = failures_at(alloc, &air, &traces, challenge, exposed, row)?;
+        let failures = failures_at(alloc, &air, &traces.main, beside, row)?;
         write!(text, "row {row}:")?;
         for failure in &failures {
             write!(text, " {failure}")?;

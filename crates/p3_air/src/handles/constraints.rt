@@ -1,4 +1,6 @@
 //! Constraints in the making.
+ghost use Rattle.std.specs.Prelude.{◌≡◌};
+
 use crate::handles::claims::Claims;
 use crate::handles::columns::{Column, Columns};
 use crate::handles::expr::Expr;
@@ -80,7 +82,9 @@ impl<F: Field> Constraints<F> {
     }
 
     /// Adds columns to the main trace, which lie side by side.
-    pub fn columns(&self, count: usize) -> Columns<'_, F> {
+    pub fn columns(&self, count: usize) -> Columns<'_, F>
+        ensures { result.count ≡ count }
+    {
         let shared = &self.shared;
         Columns {
             shared,

@@ -12,7 +12,7 @@ use Rattle.air_draft.specs.DraftTerms.{term_at, claimed_term, under_conditions}
 use Rattle.air_draft.specs.Making.{TermOverflows}
 use Rattle.air_draft.specs.ExtDraftTerms.{ext_claimed_term, under_lifted, claimed_assertion, asserted_term}
 use Rattle.air_draft.specs.ExtRoots.{RootMeans}
-use Rattle.air_draft.proofs.NumberedTerms.{all_mean_still, base_mean_still}
+use Rattle.air_draft.proofs.NumberedTerms.{base_mean_still}
 use Rattle.air_draft.proofs.Refusing.{refuses_more, Part-lifted}
 use Rattle.air_draft.proofs.RootsMean.{base_asserted, seen_from_base}
 use Rattle.air_draft.proofs.ext_roots.make_any_root.Goals as goal
@@ -29,12 +29,12 @@ returns-in_err-x-in-Extension-clause-refused g c =
     let m = length c.args.made.now in
     let p = err_from_is_err_and c.from_residual.result c.from_residual.ensures.1 in
     rw (p.1, p.2, c.in-Extension.is) (λ bs ts base all.
-        let t = ext_claimed_term g.F.Field.ONE (term_at ts) c.in-Extension.of in
-        let last = under_lifted (term_at bs) c.args.factors.now t in
-        let part = Part-lifted (term_at bs) c.args.factors.now t t whole in
-        refuses_more {p = TermOverflows t} {q = TermOverflows last} m (max n m) c.in_err-x-in-Extension.field-0.0 (le-max_right n m)
-        (λ h. laws.refuses_whole DegreeOverflow t last part h)
-        (c.in_err-x-in-Extension.ensures.refused ts all))
+    let t = ext_claimed_term g.F.Field.ONE (term_at ts) c.in-Extension.of in
+    let last = under_lifted (term_at bs) c.args.factors.now t in
+    let part = Part-lifted (term_at bs) c.args.factors.now t t whole in
+    refuses_more {p = TermOverflows t} {q = TermOverflows last} m (max n m) c.in_err-x-in-Extension.field-0.0 (le-max_right n m)
+    (λ h. laws.refuses_whole DegreeOverflow t last part h)
+    (c.in_err-x-in-Extension.ensures.refused ts all))
 
 pub returns-in_err-root-in-Extension-clause-refused : goal.returns-in_err-root-in-Extension-clause-refused
 returns-in_err-root-in-Extension-clause-refused g c =
@@ -42,10 +42,10 @@ returns-in_err-root-in-Extension-clause-refused g c =
     let m = length c.args.made.now in
     let p = err_from_is_err_and c.from_residual-in_err-root-in-Extension.result c.from_residual-in_err-root-in-Extension.ensures.1 in
     rw (p.1, p.2, c.in-Extension.is) (λ bs ts base all.
-        let then = base_mean_still g.F.Field.ring g.EF.ExtensionField.basis _ _ c.args.base.now bs c.make_ext_claimed.ensures.extended base in
-        let last = under_lifted (term_at bs) c.args.factors.now (ext_claimed_term g.F.Field.ONE (term_at ts) c.in-Extension.of) in
-        refuses_more {p = TermOverflows last} {q = TermOverflows last} n (max n m) c.in_err-root-in-Extension.field-0.0 (le-max_left n m) (λ h. h)
-        (c.in_err-root-in-Extension.ensures.refused bs _ then (c.in_ok-x-in-Extension.ensures.made.1 ts all)))
+    let then = base_mean_still g.F.Field.ring g.EF.ExtensionField.basis _ _ c.args.base.now bs c.make_ext_claimed.ensures.extended base in
+    let last = under_lifted (term_at bs) c.args.factors.now (ext_claimed_term g.F.Field.ONE (term_at ts) c.in-Extension.of) in
+    refuses_more {p = TermOverflows last} {q = TermOverflows last} n (max n m) c.in_err-root-in-Extension.field-0.0 (le-max_left n m) (λ h. h)
+    (c.in_err-root-in-Extension.ensures.refused bs _ then (c.in_ok-x-in-Extension.ensures.made.1 ts all)))
 
 pub returns-in_ok-root-in-Extension-clause-made : goal.returns-in_ok-root-in-Extension-clause-made
 returns-in_ok-root-in-Extension-clause-made g c bs ts base all =
@@ -64,14 +64,14 @@ returns-in_err-root-in_default-clause-refused g c =
     let m = length c.args.made.now in
     let p = err_from_is_err_and c.from_residual-in_err-root-in_default.result c.from_residual-in_err-root-in_default.ensures.1 in
     rw (p.1, p.2) (λ bs ts base all.
-        let seen = subst (λ u. AllZip (PoolMeans base_reads ring u) c.args.base.now bs) (sym c.base_mut.ensures.value)
-            (seen_from_base ring g.EF.ExtensionField.basis c.args.pool.now c.args.base.now bs base) in
-        let is = base_asserted g.F.Field.ONE (term_at bs) (term_at ts) c.args.factors.now c.args.claimed c.in_default.not-Extension in
-        let last = under_conditions (term_at bs) c.args.factors.now (claimed_term g.F.Field.ONE (term_at bs) c.args.claimed) in
-        let said = claimed_assertion g.F.Field.ONE (term_at bs) (term_at ts) c.args.factors.now c.args.claimed in
-        refuses_more {p = TermOverflows last} {q = TermOverflows (asserted_term said)} n (max n m) c.in_err-root-in_default.field-0.0 (le-max_left n m)
-        (λ h. subst (λ a. TermOverflows (asserted_term a)) (sym is) h)
-        (c.in_err-root-in_default.ensures.refused bs seen))
+    let seen = subst (λ u. AllZip (PoolMeans base_reads ring u) c.args.base.now bs) (sym c.base_mut.ensures.value)
+    (seen_from_base ring g.EF.ExtensionField.basis c.args.pool.now c.args.base.now bs base) in
+    let is = base_asserted g.F.Field.ONE (term_at bs) (term_at ts) c.args.factors.now c.args.claimed c.in_default.not-Extension in
+    let last = under_conditions (term_at bs) c.args.factors.now (claimed_term g.F.Field.ONE (term_at bs) c.args.claimed) in
+    let said = claimed_assertion g.F.Field.ONE (term_at bs) (term_at ts) c.args.factors.now c.args.claimed in
+    refuses_more {p = TermOverflows last} {q = TermOverflows (asserted_term said)} n (max n m) c.in_err-root-in_default.field-0.0 (le-max_left n m)
+    (λ h. subst (λ a. TermOverflows (asserted_term a)) (sym is) h)
+    (c.in_err-root-in_default.ensures.refused bs seen))
 
 pub returns-in_ok-root-in_default-clause-grown : goal.returns-in_ok-root-in_default-clause-grown
 returns-in_ok-root-in_default-clause-grown g c =
@@ -83,7 +83,7 @@ returns-in_ok-root-in_default-clause-made g c bs ts base all =
     let ring = g.F.Field.ring in
     let basis = g.EF.ExtensionField.basis in
     let seen = subst (λ u. AllZip (PoolMeans base_reads ring u) c.args.base.now bs) (sym c.base_mut.ensures.value)
-        (seen_from_base ring basis c.args.pool.now c.args.base.now bs base) in
+    (seen_from_base ring basis c.args.pool.now c.args.base.now bs base) in
     let is = base_asserted g.F.Field.ONE (term_at bs) (term_at ts) c.args.factors.now c.args.claimed c.in_default.not-Extension in
     subst (RootMeans ring basis (on_base c.args.pool.now c.make_root.new.ring) (root.Base c.in_ok-root-in_default.root)) (sym is)
     (c.in_ok-root-in_default.ensures.made.1 bs seen)

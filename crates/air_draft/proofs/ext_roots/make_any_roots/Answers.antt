@@ -2,8 +2,6 @@ use Rattle.std.proofs.Common.{None, get_or, length, map, max, take, subst, arith
 use Rattle.std.specs.List.{AllZip}
 use Rattle.std.proofs.lemmas.List.{take_all}
 use Rattle.std.proofs.lemmas.Result.{err_from_is_err_and}
-use Rattle.air_symbolic.specs.ExtLeaves.{ext_reads}
-use Rattle.air_symbolic.specs.Pools.{PoolMeans}
 use Rattle.air_symbolic.specs.laws.ExtPool.{ext_pool_laws, ext_keeps_base}
 use Rattle.air_draft.specs.DraftTerms.{term_at}
 use Rattle.air_draft.specs.Making.{TermOverflows, SomeOverflows}
@@ -35,15 +33,15 @@ returns-in_err-root-clause-refused g c =
     let n = max (length c.args.base.now) (length c.args.made.now) in
     let p = err_from_is_err_and c.from_residual-in_err-root.result c.from_residual-in_err-root.ensures.1 in
     rw (p.1, p.2) (λ bs ts base all.
-        let claims = c.args.claims.now in
-        let asserts = claim_assertion g.F.Field.ONE (term_at bs) (term_at ts) c.args.conditions.now in
-        let grown = c.loop-claim.invariant.grown in
-        let base_then = base_mean_still ring basis _ _ c.args.base.now bs grown base in
-        let then = all_mean_still laws _ _ c.args.made.now ts grown all in
-        let refused = rw c.factors_of-factors.ensures at (c.in_err-root.ensures.refused bs ts base_then then) in
-        let said = asserts (get_or claims c.loop-claim.claim-index none) in
-        refuses_more {p = TermOverflows (asserted_term said)} {q = SomeOverflows (map asserted_term (map asserts claims))} n n c.in_err-root.field-0.0 (omega arith)
-        (overflows_asserted asserts claims c.loop-claim.claim-index none c.loop-claim-test.true) refused)
+    let claims = c.args.claims.now in
+    let asserts = claim_assertion g.F.Field.ONE (term_at bs) (term_at ts) c.args.conditions.now in
+    let grown = c.loop-claim.invariant.grown in
+    let base_then = base_mean_still ring basis _ _ c.args.base.now bs grown base in
+    let then = all_mean_still laws _ _ c.args.made.now ts grown all in
+    let refused = rw c.factors_of-factors.ensures at (c.in_err-root.ensures.refused bs ts base_then then) in
+    let said = asserts (get_or claims c.loop-claim.claim-index none) in
+    refuses_more {p = TermOverflows (asserted_term said)} {q = SomeOverflows (map asserted_term (map asserts claims))} n n c.in_err-root.field-0.0 (omega arith)
+    (overflows_asserted asserts claims c.loop-claim.claim-index none c.loop-claim-test.true) refused)
 
 pub loop-claim-preserved : goal.loop-claim-preserved
 loop-claim-preserved g c =

@@ -62,13 +62,13 @@ returns-in_err-lifted-clause-refused g c =
     let number = get_or factors i 0 in
     let p = err_from_is_err_and c.from_residual-in_err-lifted.result c.from_residual-in_err-lifted.ensures.1 in
     rw (p.1, p.2) (λ bs t all m.
-        let at = term_at bs in
-        let last = under_lifted at factors t in
-        let found = term-found (g.R.ExtAlgebra.base_means c.args.ring.now) c.args.base.now bs number c.in_ok-factor.factor all c.in_ok-factor.ensures.found in
-        let refused = c.in_err-lifted.ensures.refused _ (g.met.R.ExtAlgebra.base_laws.base_means_stays _ _ _ _ h.extended found) in
-        let part = subst (λ u. Part u last) (under_lifted-more at factors i t c.loop-factor-test.true) (Part-lifted_first at factors (i + 1) t) in
-        ring_refuses A.refuses (length c.args.base.now) _ last
-        (laws.refuses_whole _ _ _ part (laws.refuses_whole _ _ (mul_term (under_lifted at (take i factors) t) (at number)) (in_mul_right whole) refused)))
+    let at = term_at bs in
+    let last = under_lifted at factors t in
+    let found = term-found (g.R.ExtAlgebra.base_means c.args.ring.now) c.args.base.now bs number c.in_ok-factor.factor all c.in_ok-factor.ensures.found in
+    let refused = c.in_err-lifted.ensures.refused _ (g.met.R.ExtAlgebra.base_laws.base_means_stays _ _ _ _ h.extended found) in
+    let part = subst (λ u. Part u last) (under_lifted-more at factors i t c.loop-factor-test.true) (Part-lifted_first at factors (i + 1) t) in
+    ring_refuses A.refuses (length c.args.base.now) _ last
+    (laws.refuses_whole _ _ _ part (laws.refuses_whole _ _ (mul_term (under_lifted at (take i factors) t) (at number)) (in_mul_right whole) refused)))
 
 pub returns-in_err-product-clause-refused : goal.returns-in_err-product-clause-refused
 returns-in_err-product-clause-refused g c =
@@ -80,10 +80,10 @@ returns-in_err-product-clause-refused g c =
     let number = get_or factors i 0 in
     let p = err_from_is_err_and c.from_residual-in_err-product.result c.from_residual-in_err-product.ensures.1 in
     rw (p.1, p.2) (λ bs t all m.
-        let at = term_at bs in
-        let last = under_lifted at factors t in
-        let found = term-found (g.R.ExtAlgebra.base_means c.args.ring.now) c.args.base.now bs number c.in_ok-factor.factor all c.in_ok-factor.ensures.found in
-        let lifted = c.in_ok-lifted.ensures.made.1 _ (g.met.R.ExtAlgebra.base_laws.base_means_stays _ _ _ _ h.extended found) in
-        let refused = c.in_err-product.ensures.refused _ _ (laws.means_stays _ _ _ _ c.lift.ensures.extended (h.made bs t all m)) lifted in
-        let part = subst (λ u. Part u last) (under_lifted-more at factors i t c.loop-factor-test.true) (Part-lifted_first at factors (i + 1) t) in
-        ring_refuses A.refuses (length c.args.base.now) _ last (laws.refuses_whole _ _ _ part refused))
+    let at = term_at bs in
+    let last = under_lifted at factors t in
+    let found = term-found (g.R.ExtAlgebra.base_means c.args.ring.now) c.args.base.now bs number c.in_ok-factor.factor all c.in_ok-factor.ensures.found in
+    let lifted = c.in_ok-lifted.ensures.made.1 _ (g.met.R.ExtAlgebra.base_laws.base_means_stays _ _ _ _ h.extended found) in
+    let refused = c.in_err-product.ensures.refused _ _ (laws.means_stays _ _ _ _ c.lift.ensures.extended (h.made bs t all m)) lifted in
+    let part = subst (λ u. Part u last) (under_lifted-more at factors i t c.loop-factor-test.true) (Part-lifted_first at factors (i + 1) t) in
+    ring_refuses A.refuses (length c.args.base.now) _ last (laws.refuses_whole _ _ _ part refused))

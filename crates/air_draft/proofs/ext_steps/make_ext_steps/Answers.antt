@@ -5,12 +5,11 @@ use Rattle.std.proofs.lemmas.Result.{err_from_is_err_and}
 use Rattle.std.proofs.lemmas.Slice.Zip.{all_zipped_more}
 use Rattle.std.specs.List.{AllZip}
 use Rattle.air_symbolic.specs.ExtLeaves.{ext_reads}
-use Rattle.air_symbolic.specs.ExtPool.{BaseHas}
 use Rattle.air_symbolic.specs.Pools.{PoolHas, PoolMeans}
 use Rattle.air_symbolic.specs.laws.ExtPool.{ext_pool_laws, ext_keeps_base}
 use Rattle.air_draft.specs.DraftTerms.{term_at}
 use Rattle.air_draft.specs.ExtDraftTerms.{ext_step_term, ext_step_terms}
-use Rattle.air_draft.proofs.NumberedTerms.{All-beside, all_mean_still, base_mean_still, terms_after-more}
+use Rattle.air_draft.proofs.NumberedTerms.{all_mean_still, base_mean_still, terms_after-more}
 use Rattle.air_draft.proofs.Refusing.{refuses_more, max-le_max, overflows_step}
 use Rattle.air_draft.proofs.ext_steps.make_ext_steps.Goals as goal
 
@@ -36,10 +35,10 @@ returns-in_err-id-clause-refused g c =
     let n = length steps in
     let b = length base in
     rw (p.1, p.2) (λ bs all.
-        let term = ext_step_term basis (term_at bs) in
-        let refused = c.in_err-id.ensures.refused bs (ext_step_terms basis (term_at bs) (take i steps)) (rw c.deref.ensures.value (h.made bs all)) in
-        refuses_more (max b m) (max b n) _ (max-le_max b m n (omega (arith, long, h.long, c.loop-step-test.true)))
-        (overflows_step term steps i c.step-item.result c.loop-step-test.true c.step-item.is) refused)
+    let term = ext_step_term basis (term_at bs) in
+    let refused = c.in_err-id.ensures.refused bs (ext_step_terms basis (term_at bs) (take i steps)) (rw c.deref.ensures.value (h.made bs all)) in
+    refuses_more (max b m) (max b n) _ (max-le_max b m n (omega (arith, long, h.long, c.loop-step-test.true)))
+    (overflows_step term steps i c.step-item.result c.loop-step-test.true c.step-item.is) refused)
 
 pub returns-in_err-id-clause-grown : goal.returns-in_err-id-clause-grown
 returns-in_err-id-clause-grown g c =

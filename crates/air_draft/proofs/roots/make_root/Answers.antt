@@ -11,10 +11,10 @@ returns-in_err-x-clause-refused g c =
     let n = length c.args.made.now in
     let p = err_from_is_err_and c.from_residual.result c.from_residual.ensures.1 in
     rw (p.1, p.2) (λ ts all.
-        let at = term_at ts in
-        let t = claimed_term g.F.Field.ONE at c.args.claimed in
-        refuses_more n n _ (omega arith) (λ h. g.met.R.Algebra.laws.refuses_whole _ _ _ (Part-under at c.args.factors.now t t whole) h)
-        (c.in_err-x.ensures.refused ts all))
+    let at = term_at ts in
+    let t = claimed_term g.F.Field.ONE at c.args.claimed in
+    refuses_more n n _ (omega arith) (λ h. g.met.R.Algebra.laws.refuses_whole _ _ _ (Part-under at c.args.factors.now t t whole) h)
+    (c.in_err-x.ensures.refused ts all))
 
 pub returns-clause-made : goal.returns-clause-made
 returns-clause-made g c =

@@ -19,10 +19,10 @@ returns-in_err-root-clause-refused g c =
     let n = length c.args.made.now in
     let p = err_from_is_err_and c.from_residual-in_err-root.result c.from_residual-in_err-root.ensures.1 in
     rw (p.1, p.2) (λ ts all.
-        let terms = claim_term g.F.Field.ONE (term_at ts) c.args.conditions.now in
-        let then = all_mean_still laws _ _ c.args.made.now ts c.loop-claim.invariant.grown all in
-        let refused = rw c.factors_of-factors.ensures at (c.in_err-root.ensures.refused ts then) in
-        refuses_more n n _ (omega arith) (overflows_map terms c.args.claims.now c.loop-claim.claim-index none c.loop-claim-test.true) refused)
+    let terms = claim_term g.F.Field.ONE (term_at ts) c.args.conditions.now in
+    let then = all_mean_still laws _ _ c.args.made.now ts c.loop-claim.invariant.grown all in
+    let refused = rw c.factors_of-factors.ensures at (c.in_err-root.ensures.refused ts then) in
+    refuses_more n n _ (omega arith) (overflows_map terms c.args.claims.now c.loop-claim.claim-index none c.loop-claim-test.true) refused)
 
 pub loop-claim-preserved : goal.loop-claim-preserved
 loop-claim-preserved g c =

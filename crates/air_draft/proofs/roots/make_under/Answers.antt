@@ -59,9 +59,9 @@ returns-in_err-product-clause-refused g c =
     let number = get_or factors i 0 in
     let p = err_from_is_err_and c.from_residual-in_err-product.result c.from_residual-in_err-product.ensures.1 in
     rw (p.1, p.2) (λ ts t all m.
-        let at = term_at ts in
-        let whole = under_conditions at factors t in
-        let meant = term-found (A.means ring) c.args.made.now ts number c.in_ok-factor.factor all c.in_ok-factor.ensures.found in
-        let refused = c.in_err-product.ensures.refused _ _ (laws.means_stays _ _ _ _ h.extended meant) (h.made ts t all m) in
-        let part = subst (λ u. Part u whole) (under_conditions-more at factors i t c.loop-factor-test.true) (Part-under_first at factors (i + 1) t) in
-        ring_refuses A.refuses (length c.args.made.now) _ whole (laws.refuses_whole _ _ _ part refused))
+    let at = term_at ts in
+    let whole = under_conditions at factors t in
+    let meant = term-found (A.means ring) c.args.made.now ts number c.in_ok-factor.factor all c.in_ok-factor.ensures.found in
+    let refused = c.in_err-product.ensures.refused _ _ (laws.means_stays _ _ _ _ h.extended meant) (h.made ts t all m) in
+    let part = subst (λ u. Part u whole) (under_conditions-more at factors i t c.loop-factor-test.true) (Part-under_first at factors (i + 1) t) in
+    ring_refuses A.refuses (length c.args.made.now) _ whole (laws.refuses_whole _ _ _ part refused))

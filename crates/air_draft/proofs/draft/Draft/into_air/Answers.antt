@@ -1,4 +1,4 @@
-use Rattle.std.proofs.Common.{ℕ, ◌<◌, inr, arith}
+use Rattle.std.proofs.Common.{◌<◌, inr, rules}
 use Rattle.std.proofs.lemmas.Result.{err_from_is_err_and}
 use Rattle.air_symbolic.specs.BaseLeaves.{base_reads}
 use Rattle.air_symbolic.specs.Pools.{PoolMeans, size}
@@ -18,7 +18,7 @@ new-requires g c =
 pub returns-in_err-air-clause-refused : goal.returns-in_err-air-clause-refused
 returns-in_err-air-clause-refused g c =
     let p = err_from_is_err_and c.from_residual-in_err-air.result c.from_residual-in_err-air.ensures.1 in
-    rw (p.1, p.2, c.in_err-air.ensures.refused) (inr (0, omega arith, tt))
+    rw (p.1, p.2, c.in_err-air.ensures.refused) (inr (search rules, tt))
 
 pub returns-in-Some-preprocessed-clause-records : goal.returns-in-Some-preprocessed-clause-records
 returns-in-Some-preprocessed-clause-records g c =
