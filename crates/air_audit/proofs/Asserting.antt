@@ -55,12 +55,17 @@ module _ {S R E F : Type 0} {view : BuilderView S R E F} (ring : RingLaws view) 
   asserts_at_kept : (table : List E) (a b : S) → kept a b → (p : ℕ) (s : Assertion F) → AssertsAt (MeansIn view) table a p s → AssertsAt (MeansIn view) table b p s
   asserts_at_kept table a b k p s h = (h.0, h.1, asserts_kept ring laws Base (λ t. t) a b k h.0 s h.2)
 
+  -- one element was asserted, or refused, as another is
+  pub as_another : {I J : Type 0} {asserts : S → I → Assertion F → Type 0} {other : S → J → Assertion F → Type 0} (b c : S) (x : I) (y : J) (r : Result (Unit {0}) AirError)
+      → ((s : Assertion F) → other b y s → asserts b x s) → AssertedEach asserts kept grew refuses b c (x ∷ []) r → AssertedEach other kept grew refuses b c (y ∷ []) r
+  as_another b c x y (Ok u) f h = asserted_one (Ok u) h.keeps (λ s k. grew_one h s (f s k)) tt tt
+  as_another b c x y (Err e) f h = asserted_one (Err e) h.keeps tt (grew_none h) (λ s k. refused_one h s (f s k))
+
   -- the expression of a place was asserted, or refused
   at_place : (b c : S) (table : List E) (p : ℕ) (x : E) (r : Result (Unit {0}) AirError) → slice_get table p ≡ Some x
       → AssertedEach (AssertsOf Base (MeansIn view) (λ t. t)) kept grew refuses b c (x ∷ []) r
       → AssertedEach (AssertsAt (MeansIn view) table) kept grew refuses b c (p ∷ []) r
-  at_place b c table p x (Ok u) at h = asserted_one (Ok u) h.keeps (λ s k. grew_one h s (read_is _ table p x k at)) tt tt
-  at_place b c table p x (Err e) at h = asserted_one (Err e) h.keeps tt (grew_none h) (λ s k. refused_one h s (read_is _ table p x k at))
+  at_place b c table p x r at h = as_another b c x p r (λ s k. read_is _ table p x k at) h
 
   -- no place yet
   pub no_place : {a : S} (table : List E) → AssertedEach (AssertsAt (MeansIn view) table) kept grew refuses a a [] (Ok tt)
@@ -87,23 +92,22 @@ module _ {S R E F : Type 0} {view : BuilderView S R E F} (ring : RingLaws view) 
       → AssertedEach (AssertsAt (MeansIn view) table) kept grew refuses a b places (Ok tt)
   all_places {a} {b} table places i end h = asserted_all laws (AssertsAt (MeansIn view) table) (asserts_at_kept table) {a = a} {b = b} places i end h
 
-  -- each root's expression was made, and asserted to be zero
-  pub roots_asserted : (a b d : S) (table : List E) (places : List ℕ) (ts : List (Term F)) (r : Result (Unit {0}) AirError) → grew a b []
-      → AllZip (AssertsAt (MeansIn view) table b) places (map (λ t. Base t) ts) → All (λ t. EachLeaf (λ l. missing a l → ⊥) t) ts
-      → AssertedEach (AssertsAt (MeansIn view) table) kept grew refuses b d places r
-      → AssertedList kept grew missing (OrMemory refuses) a d r (map (λ t. Base t) ts)
-  roots_asserted a b d table places ts (Ok u) g each there h = record {
+  -- what each element asserts was made, and asserted
+  pub list_asserted : {I : Type 0} (asserts : S → I → Assertion F → Type 0) (a b d : S) (xs : List I) (ss : List (Assertion F)) (r : Result (Unit {0}) AirError) → grew a b []
+      → AllZip (asserts b) xs ss → EachLeafOf (λ l. missing a l → ⊥) ss
+      → AssertedEach asserts kept grew refuses b d xs r
+      → AssertedList kept grew missing (OrMemory refuses) a d r ss
+  list_asserted asserts a b d xs ss (Ok u) g each there h = record {
     asserted = record {
       keeps = laws.kept_joined a b d (laws.by_growth a b [] g) h.keeps;
-      ok = laws.joined a b d [] (map (λ t. Base t) ts) g (h.ok (map (λ t. Base t) ts) each);
+      ok = laws.joined a b d [] ss g (h.ok ss each);
       err = tt;
       refused = tt;
     };
-    there = none_missing (missing a) (map (λ t. Base t) ts) (leaves_of (λ l. missing a l → ⊥) ts there);
+    there = none_missing (missing a) ss there;
   }
-  roots_asserted a b d table places ts (Err e) g each there h =
-      let ss : List (Assertion F) = map (λ t. Base t) ts in
-      let len = sym (AllZip-long _ places ss each) in
+  list_asserted asserts a b d xs ss (Err e) g each there h =
+      let len = sym (AllZip-long _ xs ss each) in
       let within = h.err.within in
       record {
         asserted = record {
@@ -112,12 +116,20 @@ module _ {S R E F : Type 0} {view : BuilderView S R E F} (ring : RingLaws view) 
           err = record {
             count = h.err.count;
             within = omega (arith, len, within);
-            beginning = laws.joined a b d [] (take h.err.count ss) g (h.err.beginning (take h.err.count ss) (AllZip-take _ h.err.count places ss each));
+            beginning = laws.joined a b d [] (take h.err.count ss) g (h.err.beginning (take h.err.count ss) (AllZip-take _ h.err.count xs ss each));
           };
           refused = inr (laws.refuses_then a b e [] ss g (h.refused ss each));
         };
         there = tt;
       }
+
+  -- each root's expression was made, and asserted to be zero
+  pub roots_asserted : (a b d : S) (table : List E) (places : List ℕ) (ts : List (Term F)) (r : Result (Unit {0}) AirError) → grew a b []
+      → AllZip (AssertsAt (MeansIn view) table b) places (map (λ t. Base t) ts) → All (λ t. EachLeaf (λ l. missing a l → ⊥) t) ts
+      → AssertedEach (AssertsAt (MeansIn view) table) kept grew refuses b d places r
+      → AssertedList kept grew missing (OrMemory refuses) a d r (map (λ t. Base t) ts)
+  roots_asserted a b d table places ts r g each there h =
+      list_asserted (AssertsAt (MeansIn view) table) a b d places (map (λ t. Base t) ts) r g each (leaves_of (λ l. missing a l → ⊥) ts there) h
 
   -- of no roots nothing is asserted
   pub none_asserted : (a : S) → AssertedList kept grew missing (OrMemory refuses) a a (Ok tt) []
@@ -127,18 +139,22 @@ module _ {S R E F : Type 0} {view : BuilderView S R E F} (ring : RingLaws view) 
   }
 
   -- the making of the expressions was refused
+  pub list_refused : (a b : S) (e : AirError) (ss : List (Assertion F)) → 0 < length ss → grew a b [] → OrMemory refuses a e ss
+      → AssertedList kept grew missing (OrMemory refuses) a b (Err e) ss
+  list_refused a b e ss some g f = record {
+    asserted = record {
+      keeps = laws.by_growth a b [] g;
+      ok = tt;
+      err = record { count = 0; within = some; beginning = g };
+      refused = f;
+    };
+    there = tt;
+  }
+
   pub making_refused : (a b : S) (e : AirError) (ts : List (Term F)) → 0 < length ts → grew a b []
       → ((ss : List (Assertion F)) → All (λ u. PartOf u ss) ts → OrMemory refuses a e ss)
       → AssertedList kept grew missing (OrMemory refuses) a b (Err e) (map (λ u. Base u) ts)
   making_refused a b e ts some g f =
       let ss : List (Assertion F) = map (λ u. Base u) ts in
       let len : length ss ≡ length ts = length-map ts (λ (u : Term F). Base u) in
-      record {
-        asserted = record {
-          keeps = laws.by_growth a b [] g;
-          ok = tt;
-          err = record { count = 0; within = omega (arith, len, some); beginning = g };
-          refused = f ss (all_parts ts);
-        };
-        there = tt;
-      }
+      list_refused a b e ss (omega (arith, len, some)) g (f ss (all_parts ts))

@@ -8,3 +8,6 @@ mod Needed
 mod Roots
 mod Asserting
 mod Rows
+mod ExtRoots
+mod OverRoots
+mod OverMaking

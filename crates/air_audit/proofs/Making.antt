@@ -1,5 +1,6 @@
 -- Making the expressions of numbers.
-use Rattle.std.proofs.Common.{◌≡◌, ◌<◌, ℕ, List, [], length, slice_get, Option, Some, Ok, Err, sym, ap, ap₂, subst, ◌∙◌, arith}
+use Rattle.std.proofs.Common.{◌≡◌, ◌<◌, ℕ, List, [], length, get_or, slice_get, Option, Some, Ok, Err, sym, ap, ap₂, subst, ◌∙◌, arith}
+use Rattle.std.proofs.lemmas.List.{get_or_default}
 use Rattle.air_field.specs.Term.{Leaf, main, Term, leaf_term, add_term, sub_term, neg_term, mul_term}
 use Rattle.air_core.specs.declared.errors.AirError.TheVariants.{RowOffset}
 use Rattle.air_symbolic.specs.Leaves.{Leaves}
@@ -16,7 +17,7 @@ use Rattle.air_author.specs.Handing.{each_weaker, made_lasts}
 use Rattle.air_symbolic.specs.laws.Sharing.{found}
 use Rattle.air_audit.specs.declared.flat.step.Step.{Step}
 use Rattle.air_audit.specs.Plans.{number_at, IsPlaceOf, MakesPlace, StepMakes, column_of, IsColumn, IsSumOf, IsDifferenceOf, IsNegativeOf, IsProductOf}
-use Rattle.air_audit.specs.Tables.{IsMade, HasAt}
+use Rattle.air_audit.specs.Tables.{IsMade, HasAt, HasNumber, TableMade}
 
 -- what a table has at a place is what is read there
 pub read_is : {E : Type 0} (P : E → Type 0) (table : List E) (p : ℕ) (r : E) → HasAt P table p → slice_get table p ≡ Some r → P r
@@ -24,6 +25,14 @@ read_is {E} P table p r (x, e, h) at = subst P (same (sym e ∙ at)) h
   where
     same : Some x ≡ Some r → x ≡ r
     same e = cc
+
+-- what was read in a list of places, and at the place
+pub place_read : (places : List ℕ) (i n p : ℕ) → i < length places → n ≡ i → p ≡ get_or places n p → get_or places i 0 ≡ p
+place_read places i n p lt e is = get_or_default places i 0 p lt ∙ ap (λ k. get_or places k p) (sym e) ∙ sym is
+
+pub number_read : {E : Type 0} (places : List ℕ) (table : List E) (i n p : ℕ) (x : E) → i < length places → n ≡ i → p ≡ get_or places n p → slice_get table p ≡ Some x
+    → slice_get table (get_or places i 0) ≡ Some x
+number_read places table i n p x lt e is at = ap (λ v. slice_get table v) (place_read places i n p lt e is) ∙ at
 
 column_term : {F : Type 0} (o c : ℕ) (t : Term F) → column_of t ≡ Some (o, c) → leaf_term (main o c) ≡ t
 column_term o c (leaf_term (main p i)) h = ap (λ q. leaf_term (main q.0 q.1)) (same h)
@@ -147,3 +156,18 @@ module _ {S R E F : Type 0} {view : BuilderView S R E F} (ring : RingLaws view) 
       → HasAt (IsMade (MeansIn view) missing a u) table q
       → AlwaysAfter kept (λ b. HasAt (IsMade (MeansIn view) missing b t) table p × HasAt (IsMade (MeansIn view) missing b u) table q) a
   both_last table p q t u a h i b k = (at_lasts table p t a h b k, at_lasts table q u a i b k)
+
+  -- the same of what it has by numbers
+  pub number_lasts : (places : List ℕ) (table : List E) (i : ℕ) (t : Term F) (a : S) → HasNumber (IsMade (MeansIn view) missing a t) places table i
+      → AlwaysAfter kept (λ b. HasNumber (IsMade (MeansIn view) missing b t) places table i) a
+  number_lasts places table i t a h b k = (h.0, at_lasts table (get_or places i 0) t a h.1 b k)
+
+  pub numbers_last : (places : List ℕ) (table : List E) (i j : ℕ) (t u : Term F) (a : S) → HasNumber (IsMade (MeansIn view) missing a t) places table i
+      → HasNumber (IsMade (MeansIn view) missing a u) places table j
+      → AlwaysAfter kept (λ b. HasNumber (IsMade (MeansIn view) missing b t) places table i × HasNumber (IsMade (MeansIn view) missing b u) places table j) a
+  numbers_last places table i j t u a h m b k = (number_lasts places table i t a h b k, number_lasts places table j u a m b k)
+
+  -- the same of the whole table
+  pub table_lasts : (term : ℕ → Term F) (numbers : List ℕ) (table : List E) (k : ℕ) (a b : S) → kept a b → TableMade (IsMade (MeansIn view) missing a) term numbers table k
+      → TableMade (IsMade (MeansIn view) missing b) term numbers table k
+  table_lasts term numbers table k a b e h p lt = let x = h p lt in (x.0, x.1, made_stays a b (term (number_at numbers p)) x.0 e x.2)

@@ -19,8 +19,8 @@ use Rattle.air_builder.specs.Assertion.{Assertion}
 use Rattle.air_builder.specs.Refusals.{PartOf}
 use Rattle.air_symbolic.specs.Reach.{IsOperand, ReachedFrom, root, operand}
 use Rattle.air_audit.specs.declared.flat.step.Step.{Step}
-use Rattle.air_audit.specs.Plans.{number_at, has_operand, some_has_operand, IsPlan}
-use Rattle.air_audit.specs.Tables.{TableMade}
+use Rattle.air_audit.specs.Plans.{number_at, has_operand, some_has_operand, IsPlaceOf, IsUsed, IsPlan}
+use Rattle.air_audit.specs.Tables.{HasAt, TableMade}
 
 -- an operand's term is a part of the node's
 module _ {A F : Type 0} (f : A → Term F) (at : ℕ → Term F) where
@@ -76,7 +76,9 @@ module _ {A F : Type 0} (l : Leaves A F) (ns : List (SymbolicExpr A)) where
       (subst (Part (term_of l.term (tree_of ns i))) (sym is.term) (operand_part l.term (λ x. term_of l.term (tree_of ns x)) i n p))
       (reached_part roots ss h j r)
 
-  module _ (wf : WellFormed l ns) (roots numbers : List ℕ) (steps : List Step) (places : List ℕ) (h : IsPlan l ns roots numbers steps places) where
+  -- numbers that are in the pool, each of which is a root, or an operand of one of them
+  module _ (wf : WellFormed l ns) (roots numbers : List ℕ) (in_pool : (k : ℕ) → k < length numbers → number_at numbers k < length ns)
+      (used : (k : ℕ) → k < length numbers → IsUsed ns roots numbers (number_at numbers k)) where
     equal_root : (i : ℕ) → Any (λ r. eqb i r ≡ true) roots → ReachedFrom l ns roots i
     equal_root i (k, r, lt, is, e) = root (k, lt, at)
       where
@@ -89,7 +91,7 @@ module _ {A F : Type 0} (l : Leaves A F) (ns : List (SymbolicExpr A)) where
         → Any (λ j. some_has_operand i (slice_get ns j) ≡ true) numbers → ReachedFrom l ns roots i
     of_operand m i far earlier (q, j, q_in, is, e) =
         let same : number_at numbers q ≡ j = get_or_default numbers q 0 j q_in ∙ is in
-        let here : j < length ns = subst (λ v. v < length ns) same (h.here q q_in) in
+        let here : j < length ns = subst (λ v. v < length ns) same (in_pool q q_in) in
         let f : (n : SymbolicExpr A) × IsNode l ns j n = found l ns wf j here in
         let p : IsOperand i f.0 = is_operand i f.0 (subst (λ o. some_has_operand i o ≡ true) f.1.node e) in
         let less = operand_less i j f.0 p f.1.below in
@@ -97,17 +99,20 @@ module _ {A F : Type 0} (l : Leaves A F) (ns : List (SymbolicExpr A)) where
 
     -- the roots reach each number
     needed : (m k : ℕ) → k < length numbers → length ns ≤ number_at numbers k + m → ReachedFrom l ns roots (number_at numbers k)
-    needed zero k lt far = let here = h.here k lt in absurd (omega (arith, here, far))
+    needed zero k lt far = let here = in_pool k lt in absurd (omega (arith, here, far))
     needed (suc m) k lt far =
         let i = number_at numbers k in
         ⊎_elim
         (λ (a : list_any (λ r. eqb i r) roots ≡ true). equal_root i (Any-from_list_any (λ r. eqb i r) roots a))
         (λ (b : list_any (λ j. some_has_operand i (slice_get ns j)) numbers ≡ true). of_operand m i far (λ q q_in less. needed m q q_in less) (Any-from_list_any (λ j. some_has_operand i (slice_get ns j)) numbers b))
-        (either (list_any (λ r. eqb i r) roots) (list_any (λ j. some_has_operand i (slice_get ns j)) numbers) (h.used k lt))
+        (either (list_any (λ r. eqb i r) roots) (list_any (λ j. some_has_operand i (slice_get ns j)) numbers) (used k lt))
+
+    pub number_reached : (k : ℕ) → k < length numbers → ReachedFrom l ns roots (number_at numbers k)
+    number_reached k lt = needed (length ns) k lt (omega arith)
 
     -- a list that has the terms at the roots' places as parts has those of all numbers
     pub number_part : (ss : List (Assertion F)) → All (λ i. PartOf (term_of l.term (tree_of ns i)) ss) roots → (k : ℕ) → k < length numbers → PartOf (term_of l.term (tree_of ns (number_at numbers k))) ss
-    number_part ss all k lt = reached_part roots ss all (number_at numbers k) (needed (length ns) k lt (omega arith))
+    number_part ss all k lt = reached_part roots ss all (number_at numbers k) (number_reached k lt)
 
 -- the roots are the numbers of their places
 pub roots_are : (numbers places roots : List ℕ) → AllZip (λ p i. i ≡ number_at numbers p) places roots → roots ≡ map (number_at numbers) places
@@ -120,6 +125,10 @@ planned_terms term numbers places roots z = sym (map-map term (number_at numbers
 -- the same plan is one of the numbers of its roots' places
 pub plan_of_places : {A F : Type 0} (l : Leaves A F) (ns : List (SymbolicExpr A)) (roots numbers : List ℕ) (steps : List Step) (places : List ℕ) → IsPlan l ns roots numbers steps places → IsPlan l ns (map (number_at numbers) places) numbers steps places
 plan_of_places l ns roots numbers steps places h = subst (λ v. IsPlan l ns v numbers steps places) (roots_are numbers places roots h.stand) h
+
+-- what a table has at the place of a number is made of the number's term
+pub made_at_place : {E F : Type 0} (P : Term F → E → Type 0) (term : ℕ → Term F) (numbers : List ℕ) (table : List E) (k p i : ℕ) → TableMade P term numbers table k → IsPlaceOf numbers k p i → HasAt (P (term i)) table p
+made_at_place P term numbers table k p i h at = subst (λ j. HasAt (P (term j)) table p) (sym at.1) (h p at.0)
 
 -- a table gets one place more
 pub table_more : {E F : Type 0} (P Q : Term F → E → Type 0) (term : ℕ → Term F) (numbers : List ℕ) (table : List E) (k : ℕ) (x : E) → length table ≡ k → ((t : Term F) (y : E) → P t y → Q t y) → TableMade P term numbers table k → Q (term (number_at numbers k)) x → TableMade Q term numbers (table ++ x ∷ []) (k + 1)

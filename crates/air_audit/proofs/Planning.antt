@@ -12,6 +12,7 @@ use Rattle.air_symbolic.specs.declared.pools.expr.SymbolicExpr.TheVariants as no
 use Rattle.air_audit.specs.declared.flat.step.Step.{Step}
 use Rattle.air_audit.specs.declared.flat.step.Step.TheVariants as step
 use Rattle.air_audit.specs.Plans.{number_at, IsPlaceOf, StepMakes, MakesPlace, AreSteps, has_operand, some_has_operand, IsUsed, IsPlan, HavePlaces}
+use Rattle.air_audit.specs.ExtPlans.{HaveRoots, IsOrder}
 
 -- operands below k
 pub each_below : {A : Type 0} (P Q : ℕ → Type 0) (k : ℕ) (n : SymbolicExpr A) → ((i : ℕ) → i < k → P i → Q i) → OperandsBelow k n → EachOperand P n → EachOperand Q n
@@ -123,26 +124,44 @@ operand_found i (node.Mul x y d) (inl e) = or_left (eqb i x) (eqb i y) (eqb_same
 operand_found i (node.Mul x y d) (inr e) = or_right (eqb i x) (eqb i y) (eqb_same i y e)
 
 -- the roots' places
-roots_within : (marks : List (Option ℕ)) (numbers table places roots : List ℕ) → HavePlaces marks numbers table → All (λ i. Marked marks i) roots → AllZip (λ p i. p ≡ get_or table i 0) places roots → All (λ p. p < length numbers) places
-roots_within marks numbers table [] [] h m z = λ k d lt. absurd (omega (arith, lt))
-roots_within marks numbers table [] (i ∷ roots) h m z = absurd z
-roots_within marks numbers table (p ∷ places) [] h m z = absurd z
-roots_within marks numbers table (p ∷ places) (i ∷ roots) h m z = all_cons p places
-    (let at = h.placed i (m 0 i (omega arith)) in let here = z.0 in omega (arith, at.0, here))
-    (roots_within marks numbers table places roots h (λ k d lt. m (suc k) d (omega (arith, lt))) z.1)
+roots_within : (numbers table places roots : List ℕ) → All (λ i. IsPlaceOf numbers (length numbers) (get_or table i 0) i) roots → AllZip (λ p i. p ≡ get_or table i 0) places roots → All (λ p. p < length numbers) places
+roots_within numbers table [] [] h z = λ k d lt. absurd (omega (arith, lt))
+roots_within numbers table [] (i ∷ roots) h z = absurd z
+roots_within numbers table (p ∷ places) [] h z = absurd z
+roots_within numbers table (p ∷ places) (i ∷ roots) h z = all_cons p places
+    (let at = h 0 i (omega arith) in let here = z.0 in omega (arith, at.0, here))
+    (roots_within numbers table places roots (λ k d lt. h (suc k) d (omega (arith, lt))) z.1)
   where
     all_cons : (p : ℕ) (places : List ℕ) → p < length numbers → All (λ q. q < length numbers) places → All (λ q. q < length numbers) (p ∷ places)
     all_cons p places lt h zero d b = lt
     all_cons p places lt h (suc k) d b = h k d (omega (arith, b))
 
-roots_placed : (marks : List (Option ℕ)) (numbers table places roots : List ℕ) → HavePlaces marks numbers table → All (λ i. Marked marks i) roots → AllZip (λ p i. p ≡ get_or table i 0) places roots → AllZip (λ p i. i ≡ number_at numbers p) places roots
-roots_placed marks numbers table [] [] h m z = tt
-roots_placed marks numbers table [] (i ∷ roots) h m z = absurd z
-roots_placed marks numbers table (p ∷ places) [] h m z = absurd z
-roots_placed marks numbers table (p ∷ places) (i ∷ roots) h m z = (
-  (h.placed i (m 0 i (omega arith))).1 ∙ ap (λ q. number_at numbers q) (sym z.0),
-  roots_placed marks numbers table places roots h (λ k d lt. m (suc k) d (omega (arith, lt))) z.1,
+roots_placed : (numbers table places roots : List ℕ) → All (λ i. IsPlaceOf numbers (length numbers) (get_or table i 0) i) roots → AllZip (λ p i. p ≡ get_or table i 0) places roots → AllZip (λ p i. i ≡ number_at numbers p) places roots
+roots_placed numbers table [] [] h z = tt
+roots_placed numbers table [] (i ∷ roots) h z = absurd z
+roots_placed numbers table (p ∷ places) [] h z = absurd z
+roots_placed numbers table (p ∷ places) (i ∷ roots) h z = (
+  (h 0 i (omega arith)).1 ∙ ap (λ q. number_at numbers q) (sym z.0),
+  roots_placed numbers table places roots (λ k d lt. h (suc k) d (omega (arith, lt))) z.1,
 )
+
+-- each root has an entry in the table
+pub roots_long : (count : ℕ) (numbers table roots : List ℕ) → HaveRoots count numbers table roots → All (λ i. i < count) roots → All (λ i. i < length table) roots
+roots_long count numbers table roots h here k d lt = let at = here k d lt in omega (arith, at, h.long)
+
+-- steps for numbers in an order are a plan
+module _ {A F : Type 0} (l : Leaves A F) (ns : List (SymbolicExpr A)) (roots numbers table : List ℕ) (h : IsOrder l ns roots numbers table) where
+  pub order_here : All (λ i. i < length ns) numbers
+  order_here k d lt = subst (λ i. i < length ns) (get_or_default numbers k 0 d lt) (h.here k lt)
+
+  pub is_plan : (steps : List Step) (places : List ℕ) → AreSteps l ns numbers steps → AllZip (λ p i. p ≡ get_or table i 0) places roots → IsPlan l ns roots numbers steps places
+  is_plan steps places made z = record {
+    here = h.here;
+    made = made;
+    within = roots_within numbers table places roots h.rooted.placed z;
+    stand = roots_placed numbers table places roots h.rooted.placed z;
+    used = h.used;
+  }
 
 module _ {A F : Type 0} (l : Leaves A F) (ns : List (SymbolicExpr A)) (roots : List ℕ) (marks : List (Option ℕ)) (r : Reached l ns roots marks) where
   -- what is marked has a place
@@ -175,17 +194,14 @@ module _ {A F : Type 0} (l : Leaves A F) (ns : List (SymbolicExpr A)) (roots : L
         or_right (list_any (λ j. eqb i j) roots) (list_any (λ j. some_has_operand i (slice_get ns j)) numbers)
         (list_any_at (λ j. some_has_operand i (slice_get ns j)) numbers q 0 at.0 (subst (λ v. some_has_operand i (slice_get ns v) ≡ true) at.1 found))
 
-    pub numbers_here : All (λ i. i < length ns) numbers
-    numbers_here k d lt = marked_here (get_or numbers k d) (subst (λ i. Marked marks i) (same k d lt) (h.marked k lt))
-      where
-        same : (k d : ℕ) → k < length numbers → number_at numbers k ≡ get_or numbers k d
-        same k d lt = get_or_default numbers k 0 d lt
-
-    pub is_plan : (steps : List Step) (places : List ℕ) → AreSteps l ns numbers steps → AllZip (λ p i. p ≡ get_or table i 0) places roots → IsPlan l ns roots numbers steps places
-    is_plan steps places made z = record {
+    pub is_order : IsOrder l ns roots numbers table
+    is_order = record {
       here = λ k lt. marked_here (number_at numbers k) (h.marked k lt);
-      made = made;
-      within = roots_within marks numbers table places roots h r.roots_marked z;
-      stand = roots_placed marks numbers table places roots h r.roots_marked z;
+      before = λ k lt n is. each_below (λ i. Marked marks i) (λ i. IsPlaceOf numbers k (get_or table i 0) i) (number_at numbers k) n
+          (λ i below m. h.before k i lt below m) is.below (r.operands_marked (number_at numbers k) n (h.marked k lt) is);
+      rooted = record {
+        long = h.long ∙ r.places;
+        placed = λ k d lt. h.placed (get_or roots k d) (r.roots_marked k d lt);
+      };
       used = λ k lt. reached_used (number_at numbers k) (r.only_reached (number_at numbers k) (number_at numbers k) (h.marked k lt)).1;
     }

@@ -29,8 +29,9 @@ pub record HaveRoots (count : ℕ) (numbers table roots : List ℕ) : Type 0 whe
 -- The numbers that the roots need, in an order in which operands are before what is made of them: the table has their places.
 pub record IsOrder {A F : Type 0} (l : Leaves A F) (ns : List (SymbolicExpr A)) (roots numbers table : List ℕ) : Type 0 where
   pub here : (k : ℕ) → k < length numbers → number_at numbers k < length ns
-  pub before : (k : ℕ) → k < length numbers → (n : SymbolicExpr A) → IsNode l ns (number_at numbers k) n → EachOperand (λ i. IsPlaceOf numbers k (slice_index_or table i 0) i) n
-  pub roots : HaveRoots (length ns) numbers table roots
+  pub before : (k : ℕ) → k < length numbers → (n : SymbolicExpr A) → IsNode l ns (number_at numbers k) n
+      → EachOperand (λ i. IsPlaceOf numbers k (slice_index_or table i 0) i) n
+  pub rooted : HaveRoots (length ns) numbers table roots
   pub used : (k : ℕ) → k < length numbers → IsUsed ns roots numbers (number_at numbers k)
 
 -- the roots of one kind, in order
@@ -107,7 +108,8 @@ LeafIsPlanned numbers table (leaf.ExtConstant c) = ⊤
 
 -- A plan of roots of both pools: an order of the numbers over the extension, whose entries a window has, and a plan of what
 -- of the base pool they and the base roots need.
-pub record IsExtPlan {F EF : Type 0} (basis : Basis F EF) (p : ExtNodes F EF) (roots : List (Root F EF)) (base_numbers : List ℕ) (base_steps : List Step) (base_places base_table numbers table : List ℕ) : Type 0 where
+pub record IsExtPlan {F EF : Type 0} (basis : Basis F EF) (p : ExtNodes F EF) (roots : List (Root F EF)) (base_numbers : List ℕ) (base_steps : List Step)
+    (base_places base_table numbers table : List ℕ) : Type 0 where
   pub order : IsOrder (ext_reads basis p.base) p.nodes (ext_ids roots) numbers table
   pub window : All (λ i. InWindow (slice_get p.nodes i)) numbers
   pub base : IsPlan base_leaves p.base.nodes (made_of_base p roots numbers) base_numbers base_steps base_places

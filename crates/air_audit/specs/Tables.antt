@@ -31,10 +31,14 @@ HasAt P table p = SomeHas P (slice_get table p)
 abbrev pub AssertsAt : {S E F : Type 0} → (S → E → Term F → Type 0) → List E → S → ℕ → Assertion F → Type 0
 AssertsAt means table a p s = HasAt (λ x. AssertsOf Base means (λ t. t) a x s) table p
 
--- one of two tables has an expression at a root's place, by the list of places of the root's kind, and it has the property
-abbrev pub RootHas : {E X F EF : Type 0} → (E → Type 0) → (X → Type 0) → List ℕ → List ℕ → List E → List X → Root F EF → Type 0
-RootHas P Q base_places places base table (root.Base i) = (i < length base_places) × HasAt P base (slice_index_or base_places i 0)
-RootHas P Q base_places places base table (root.Extension i) = (i < length places) × HasAt Q table (slice_index_or places i 0)
+-- the table has an expression at the place of number i, by the list of places, and it has the property
+abbrev pub HasNumber : {E : Type 0} → (E → Type 0) → List ℕ → List E → ℕ → Type 0
+HasNumber P places table i = (i < length places) × HasAt P table (slice_index_or places i 0)
+
+-- the table of a root's kind has the expression of the root's number, with the property of such numbers
+abbrev pub RootHas : {E X F EF : Type 0} → (ℕ → E → Type 0) → (ℕ → X → Type 0) → List ℕ → List ℕ → List E → List X → Root F EF → Type 0
+RootHas P Q base_places places base table (root.Base i) = HasNumber (P i) base_places base i
+RootHas P Q base_places places base table (root.Extension i) = HasNumber (Q i) places table i
 
 -- the assertion is that what the expression of a root means is zero, in the field or over the extension
 abbrev pub AssertsRoot : {S E X F EF : Type 0} → (S → E → Term F → Type 0) → (S → X → Term F → Type 0) → List ℕ → List ℕ → List E → List X

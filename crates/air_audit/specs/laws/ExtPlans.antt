@@ -1,10 +1,11 @@
 -- That a plan is one of roots of both pools has at most one proof.
-use Rattle.std.specs.Prelude.{ℕ, List, Option, None, Some}
+use Rattle.std.specs.Prelude.{ℕ, List, slice_index_or, Option, None, Some}
 use Rattle.std.proofs.Props.{props}
 use Rattle.air_field.specs.Extension.{Basis}
 use Rattle.air_core.specs.declared.variables.ext_entry.ExtEntry.{ExtEntry}
 use Rattle.air_core.specs.declared.variables.ext_entry.ExtEntry.TheVariants.{Permutation, Challenge, PermutationValue}
 use Rattle.air_symbolic.specs.BaseLeaves.{base_leaves}
+use Rattle.air_symbolic.specs.ExtLeaves.{ext_reads}
 use Rattle.air_symbolic.specs.ExtPool.{ExtNodes}
 use Rattle.air_symbolic.specs.Leaves.{Leaves}
 use Rattle.air_symbolic.specs.Reach.{EachOperand}
@@ -15,18 +16,19 @@ use Rattle.air_symbolic.specs.declared.pools.expr.SymbolicExpr.TheVariants as no
 use Rattle.air_audit.specs.declared.flat.root.Root.{Root}
 use Rattle.air_audit.specs.declared.flat.step.Step.{Step}
 use Rattle.air_audit.specs.Plans.{IsPlaceOf, IsPlan}
-use Rattle.air_audit.specs.ExtPlans.{IsOfExtWindow, NodeInWindow, InWindow, IsOrder, IsExtPlan, made_of_base}
+use Rattle.air_audit.specs.ExtPlans.{IsOfExtWindow, NodeInWindow, InWindow, IsOrder, IsExtPlan}
 use Rattle.air_audit.specs.laws.Plans.{IsPlan-prop}
 
-each_place-prop : {A : Type 0} (numbers table : List ℕ) (k : ℕ) (at : ℕ → ℕ) (n : SymbolicExpr A) → IsProp (EachOperand (λ i. IsPlaceOf numbers k (at i) i) n)
-each_place-prop numbers table k at (node.Leaf a) = hlevel props
-each_place-prop numbers table k at (node.Add x y d) = hlevel props
-each_place-prop numbers table k at (node.Sub x y d) = hlevel props
-each_place-prop numbers table k at (node.Neg x d) = hlevel props
-each_place-prop numbers table k at (node.Mul x y d) = hlevel props
+module _ {A : Type 0} (numbers table : List ℕ) (k : ℕ) where
+  place-prop : (n : SymbolicExpr A) → IsProp (EachOperand (λ i. IsPlaceOf numbers k (slice_index_or table i 0) i) n)
+  place-prop (node.Leaf a) = hlevel props
+  place-prop (node.Add x y d) = hlevel props
+  place-prop (node.Sub x y d) = hlevel props
+  place-prop (node.Neg x d) = hlevel props
+  place-prop (node.Mul x y d) = hlevel props
 
 IsOrder-prop : {A F : Type 0} (l : Leaves A F) (ns : List (SymbolicExpr A)) (roots numbers table : List ℕ) → IsProp (IsOrder l ns roots numbers table)
-IsOrder-prop l ns roots numbers table = hlevel (props, each_place-prop numbers table)
+IsOrder-prop {A = A} l ns roots numbers table = hlevel (props, place-prop {A = A} numbers table)
 
 entry-prop : (e : ExtEntry) → IsProp (IsOfExtWindow e)
 entry-prop (Permutation o) = hlevel props
@@ -46,6 +48,7 @@ window-prop : {F EF : Type 0} (o : Option (SymbolicExpr (ExtLeaf F EF))) → IsP
 window-prop None = hlevel props
 window-prop (Some n) = node-prop n
 
-pub IsExtPlan-prop : {F EF : Type 0} (basis : Basis F EF) (p : ExtNodes F EF) (roots : List (Root F EF)) (base_numbers : List ℕ) (base_steps : List Step) (base_places base_table numbers table : List ℕ) → IsProp (IsExtPlan basis p roots base_numbers base_steps base_places base_table numbers table)
-IsExtPlan-prop {F} {EF} basis p roots base_numbers base_steps base_places base_table numbers table =
-    hlevel (props, IsOrder-prop, window-prop {F} {EF}, IsPlan-prop base_leaves)
+pub IsExtPlan-prop : {F EF : Type 0} (basis : Basis F EF) (p : ExtNodes F EF) (roots : List (Root F EF)) (base_numbers : List ℕ) (base_steps : List Step)
+    (base_places base_table numbers table : List ℕ) → IsProp (IsExtPlan basis p roots base_numbers base_steps base_places base_table numbers table)
+IsExtPlan-prop {F = F} {EF = EF} basis p roots base_numbers base_steps base_places base_table numbers table =
+    hlevel (props, IsOrder-prop (ext_reads basis p.base), window-prop {F = F} {EF = EF}, IsPlan-prop (base_leaves {F = F}))

@@ -1,39 +1,38 @@
 //! The expressions of places over the extension.
-ghost use Rattle.std.specs.Prelude.{◌≡◌, ◌<◌, length, slice_get};
+ghost use Rattle.std.specs.Prelude.{◌<◌, length};
 ghost use Rattle.air_symbolic.specs.BaseLeaves.{base_reads};
-ghost use Rattle.air_symbolic.specs.ExtLeaves.{ext_reads, ext_term, ext_valid};
+ghost use Rattle.air_symbolic.specs.ExtLeaves.{ext_reads, ext_term};
 ghost use Rattle.air_symbolic.specs.Pools.{term_at};
 ghost use Rattle.air_author.specs.Expressions.{MakesIn};
 ghost use Rattle.air_audit.specs.Plans.{number_at};
 ghost use Rattle.air_audit.specs.ExtPlans.{LeafIsPlanned};
-ghost use Rattle.air_audit.specs.Tables.{IsMadeIn, HasAt, TableMade};
+ghost use Rattle.air_audit.specs.Tables.{IsMadeIn, HasNumber, TableMade};
 
 use crate::flat::extension::air::FlatExtAir;
 use crate::flat::extension::leaves::make_ext_variable;
 use crate::flat::nodes::{AtPlace, expression_at};
 use air_author::{Difference, ExtConstant, ExtExpression, Lifted, Negative, Product, Sum};
-use air_builder::{AirError, PermutationAirBuilder, View, ViewOver};
+use air_builder::{AirError, ExtensionBuilder, PermutationAirBuilder, View, ViewOver};
 use air_field::{Algebra, ExtAlgebra, ExtensionField, Field, FromVar};
-use air_symbolic::{ExtLeaf, SymbolicExpr};
+use air_symbolic::{ExprId, ExtLeaf, SymbolicExpr};
 
-/// The expression of a place's number over the extension, which the table has.
+/// The expression of a number over the extension, which the table has.
 #[derive(Drop)]
-struct AtExtPlace<'a, E, F: Field, EF: ExtensionField<F>>(&'a FlatExtAir<F, EF>, &'a [E], usize);
+struct AtNumber<'a, E, F: Field, EF: ExtensionField<F>>(
+    &'a FlatExtAir<F, EF>,
+    &'a [E],
+    ExprId<ExtLeaf<F, EF>>,
+);
 
-impl<'a, AB: PermutationAirBuilder> ExtExpression<AB> for AtExtPlace<'a, AB::ExprEF, AB::F, AB::EF>
-where
-    AB::ExtRing: FromVar<AB::F, AB::RandomVar> + FromVar<AB::F, AB::PermutationVar>,
-{
-    ghost ext_term = { λ s. term_at (ext_reads AB.EF.basis) s.0.now.pool
-        (number_at s.0.now.plan.numbers.items s.2) };
+impl<'a, AB: ExtensionBuilder> ExtExpression<AB> for AtNumber<'a, AB::ExprEF, AB::F, AB::EF> {
+    ghost ext_term = { λ s. term_at (ext_reads AB.EF.basis) s.0.now.pool s.2 };
 
-    ghost usable = { λ s b. HasAt (IsMadeIn ⟦<AB as ViewOver>⟧.view b
-        (term_at (ext_reads AB.EF.basis) s.0.now.pool
-        (number_at s.0.now.plan.numbers.items s.2))) s.1.now s.2 };
+    ghost usable = { λ s b. HasNumber (IsMadeIn ⟦<AB as ViewOver>⟧.view b
+        (term_at (ext_reads AB.EF.basis) s.0.now.pool s.2)) s.0.now.plan.table.items s.1.now s.2 };
 
     #[inline(always)]
     fn make_ext(&self, _builder: &mut AB) -> Result<AB::ExprEF, AirError> {
-        Ok(expression_at(self.1, self.2))
+        Ok(expression_at(self.1, self.0.plan.table[self.2.number()]))
     }
 }
 
@@ -87,26 +86,17 @@ where
         (term_at (ext_reads AB.EF.basis) air.now.pool
         (number_at air.now.plan.numbers.items place)) }
 {
-    let (pool, places) = (&air.pool, &air.plan.table);
-    match *pool.node(air.plan.numbers[place]) {
+    match *air.pool.node(air.plan.numbers[place]) {
         SymbolicExpr::Leaf(leaf) => make_ext_leaf(builder, air, leaf, base),
-        SymbolicExpr::Add { x, y, .. } => Sum(
-            AtExtPlace(air, table, places[x.number()]),
-            AtExtPlace(air, table, places[y.number()]),
-        )
-        .make_ext(builder),
-        SymbolicExpr::Sub { x, y, .. } => Difference(
-            AtExtPlace(air, table, places[x.number()]),
-            AtExtPlace(air, table, places[y.number()]),
-        )
-        .make_ext(builder),
-        SymbolicExpr::Neg { x, .. } => {
-            Negative(AtExtPlace(air, table, places[x.number()])).make_ext(builder)
+        SymbolicExpr::Add { x, y, .. } => {
+            Sum(AtNumber(air, table, x), AtNumber(air, table, y)).make_ext(builder)
         }
-        SymbolicExpr::Mul { x, y, .. } => Product(
-            AtExtPlace(air, table, places[x.number()]),
-            AtExtPlace(air, table, places[y.number()]),
-        )
-        .make_ext(builder),
+        SymbolicExpr::Sub { x, y, .. } => {
+            Difference(AtNumber(air, table, x), AtNumber(air, table, y)).make_ext(builder)
+        }
+        SymbolicExpr::Neg { x, .. } => Negative(AtNumber(air, table, x)).make_ext(builder),
+        SymbolicExpr::Mul { x, y, .. } => {
+            Product(AtNumber(air, table, x), AtNumber(air, table, y)).make_ext(builder)
+        }
     }
 }

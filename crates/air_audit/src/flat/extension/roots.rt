@@ -1,5 +1,5 @@
 //! The roots of each kind, and what of the base pool is made for both.
-ghost use Rattle.std.specs.Prelude.{◌≡◌, ◌⊎◌, ◌<◌, ◌++◌, All, slice_get, OnOk, IfOk, IfErr};
+ghost use Rattle.std.specs.Prelude.{◌≡◌, ◌⊎◌, ◌<◌, [], ◌∷◌, ◌++◌, All, slice_get, OnOk, IfOk, IfErr};
 ghost use Rattle.air_symbolic.specs.ExtLeaves.{ext_reads};
 ghost use Rattle.air_symbolic.specs.Pools.{FitsBase, size};
 ghost use Rattle.air_symbolic.specs.declared.pools.expr.SymbolicExpr.{SymbolicExpr};
@@ -15,6 +15,20 @@ use air_symbolic::{
 };
 use std::alloc::Global;
 
+// Adds a root over the extension, and leaves another out.
+fn push_over<F: Field, EF: ExtensionField<F>>(
+    ids: &mut Vec<ExprId<ExtLeaf<F, EF>>>,
+    root: Root<F, EF>,
+) -> Result<(), AirError>
+    ensures ok { OnOk result (ids.new.items ≡ ids.old.items ++ ext_ids (root ∷ [])) }
+    ensures refused { IfErr result (λ e. e ≡ AirError.Memory) }
+{
+    match root {
+        Root::Base(_) => Ok(()),
+        Root::Extension(id) => push(ids, id),
+    }
+}
+
 /// The roots over the extension, in order.
 pub(crate) fn roots_over<F: Field, EF: ExtensionField<F>>(
     alloc: Global,
@@ -25,11 +39,23 @@ pub(crate) fn roots_over<F: Field, EF: ExtensionField<F>>(
 {
     let mut ids = Vec::new(alloc);
     for root in roots {
-        if let Root::Extension(id) = root {
-            push(&mut ids, *id)?;
-        }
+        push_over(&mut ids, *root)?;
     }
     Ok(ids)
+}
+
+// Adds a base root, and leaves another out.
+fn push_base<F: Field, EF: ExtensionField<F>>(
+    ids: &mut Vec<ExprId<BaseLeaf<F>>>,
+    root: Root<F, EF>,
+) -> Result<(), AirError>
+    ensures ok { OnOk result (ids.new.items ≡ ids.old.items ++ base_ids (root ∷ [])) }
+    ensures refused { IfErr result (λ e. e ≡ AirError.Memory) }
+{
+    match root {
+        Root::Base(id) => push(ids, id),
+        Root::Extension(_) => Ok(()),
+    }
 }
 
 /// Adds the base roots, in order.
@@ -41,9 +67,7 @@ pub(crate) fn push_base_roots<F: Field, EF: ExtensionField<F>>(
     ensures refused { IfErr result (λ e. e ≡ AirError.Memory) }
 {
     for root in roots {
-        if let Root::Base(id) = root {
-            push(ids, *id)?;
-        }
+        push_base(ids, *root)?;
     }
     Ok(())
 }
@@ -56,8 +80,13 @@ fn check_window<F: Field, EF: ExtensionField<F>>(
     ensures refused { IfErr result (λ e. RefusesEntry variable.entry e) }
 {
     match variable.entry {
-        ExtEntry::Permutation { offset } if offset > 1 => Err(AirError::RowOffset { offset }),
-        _ => Ok(()),
+        ExtEntry::Permutation { offset } => {
+            if offset > 1 {
+                return Err(AirError::RowOffset { offset });
+            }
+            Ok(())
+        }
+        ExtEntry::Challenge | ExtEntry::PermutationValue => Ok(()),
     }
 }
 

@@ -42,8 +42,8 @@ where
         (ext_ids air.now.roots.items) → OrMemory AB.refuses builder.old e ss) }
 {
     let mut table = Vec::with_capacity(alloc, air.plan.numbers.len())?;
-    for _id in &air.plan.numbers {
-        let x = make_ext_place(builder, air, table.len(), base, &table)?;
+    for place in 0..air.plan.numbers.len() {
+        let x = make_ext_place(builder, air, place, base, &table)?;
         table.push_reserved(x);
     }
     Ok(table)
@@ -59,8 +59,8 @@ fn assert_root<AB: NamedExtensionBuilder>(
     id: Root<AB::F, AB::EF>,
 ) -> Result<(), AirError>
     requires ready { AB.ready builder.old }
-    requires of_ring { RootHas (AB.Ring.has (AB.ring_of builder.old))
-        (AB.ExtRing.has (AB.ext_ring_of builder.old)) air.now.plan.base_table.items
+    requires of_ring { RootHas (λ i. AB.Ring.has (AB.ring_of builder.old))
+        (λ i. AB.ExtRing.has (AB.ext_ring_of builder.old)) air.now.plan.base_table.items
         air.now.plan.table.items base.now table.now id }
     ensures { AssertedEachIn ⟦<AB as View>⟧.view
         (AssertsRoot (MeansIn ⟦<AB as View>⟧.view) (MeansIn ⟦<AB as ViewOver>⟧.view)
@@ -88,8 +88,8 @@ pub(crate) fn assert_roots<AB: NamedExtensionBuilder>(
     table: &[AB::ExprEF],
 ) -> Result<(), AirError>
     requires ready { AB.ready builder.old }
-    requires of_ring { All (RootHas (AB.Ring.has (AB.ring_of builder.old))
-        (AB.ExtRing.has (AB.ext_ring_of builder.old)) air.now.plan.base_table.items
+    requires of_ring { All (RootHas (λ i. AB.Ring.has (AB.ring_of builder.old))
+        (λ i. AB.ExtRing.has (AB.ext_ring_of builder.old)) air.now.plan.base_table.items
         air.now.plan.table.items base.now table.now) air.now.roots.items }
     ensures { AssertedEachIn ⟦<AB as View>⟧.view
         (AssertsRoot (MeansIn ⟦<AB as View>⟧.view) (MeansIn ⟦<AB as ViewOver>⟧.view)

@@ -104,7 +104,7 @@ returns-in_err-x-clause-refused g c =
     let p = err_from_is_err_and c.from_residual-in_err-x.result c.from_residual-in_err-x.ensures.1 in
     rw (p.1, p.2) (λ ss parts.
     let roots = All-map (λ i. PartOf (term i) ss) (number_at numbers) plan.places.items parts in
-    let part = number_part base_leaves ns c.nodes_fit.ensures.nodes (map (number_at numbers) plan.places.items) numbers plan.steps.items plan.places.items c.requires.planned ss roots k lt in
+    let part = number_part base_leaves ns c.nodes_fit.ensures.nodes (map (number_at numbers) plan.places.items) numbers c.requires.planned.here c.requires.planned.used ss roots k lt in
     let here = subst (λ v. PartOf (term (number_at v c.len-in-loop-step.result)) ss) (sym c.deref.ensures.value) (subst (λ q. PartOf (term (number_at numbers q)) ss) (sym same) part) in
     inr (laws.refuses_then _ _ _ [] ss h.grown (c.in_err-x.ensures.refused ss (of_one (λ u. PartOf u ss) _ here))))
 
