@@ -160,8 +160,12 @@ pub use Rattle.air_audit.specs.FlatAirs
 pub use Rattle.air_audit.specs.RootLabels
 pub use Rattle.air_audit.specs.PermutationRows
 pub use Rattle.air_audit.specs.laws
+pub use Rattle.air_audit.specs.ExtPlans
+pub use Rattle.air_audit.specs.FlatExtAirs
 -- what is written down in code alone, and what the AIR of it declares
-pub mod DraftTerms
-pub mod DraftEntries
-pub mod Drafts
+pub use Rattle.air_draft.specs.DraftTerms
+pub use Rattle.air_draft.specs.ExtDraftTerms
+pub use Rattle.air_draft.specs.DraftEntries
+pub use Rattle.air_draft.specs.Drafts
+pub use Rattle.air_draft.specs.ExtDrafts
 pub mod TraceRows

@@ -20,12 +20,14 @@
 //! Where that is Ok, and the report lists nothing, each constraint of the AIR is zero at each row. [`print_audit`] prints
 //! what an audit found, and [`print_constraints`] the constraints as people read them.
 //!
-//! A call writes an entry of a [`Draft`], or a few. What AIR a draft makes is proved ([`Draft::into_air`]); that a call
-//! writes its own entries is tested, since no contract sees into the cell that the handles share.
+//! A call writes an entry of a [`Draft`], or a few. What AIR a draft makes is proved ([`Draft::into_air`],
+//! [`ExtDraft::into_air`]); that a call writes its own entries is tested, since no contract sees into the cells that the
+//! handles share.
 //!
 //! | to | call | its promise |
 //! |---|---|---|
 //! | write an AIR in code alone | [`Constraints`] | the AIR records what was written down |
+//! | the same over an extension | [`ExtConstraints`] | the same, of constraints of both kinds |
 //! | write one that declares its list | [`author`], [`utils`], [`BaseAir`] | `eval` asserts just the declared list on each builder |
 //! | make a trace | [`trace_of_rows`], [`TraceRows`], [`with_bits`], [`word_with_bits`] | the rows and numbers that were given |
 //! | check it | [`check_constraints`], [`check_all_constraints`] | the first fault; each row and constraint not zero |
@@ -40,11 +42,11 @@
 //! What users need of the crates below is passed on here. What differs at a call from Rust is in `CALLING.md`.
 #![tactic(auto)]
 
+pub mod extension;
 pub mod gadgets;
 pub mod handles;
 pub mod printing;
 pub mod rows;
-pub mod written;
 
 pub use air_audit::Air;
 pub use air_audit::AirBuilder;
@@ -88,6 +90,7 @@ pub use air_audit::FieldRing;
 pub use air_audit::FilteredAirBuilder;
 pub use air_audit::FlatAir;
 pub use air_audit::FlatError;
+pub use air_audit::FlatExtAir;
 pub use air_audit::FromVar;
 pub use air_audit::Goldilocks;
 pub use air_audit::Joined;
@@ -112,6 +115,7 @@ pub use air_audit::PrimeField64;
 pub use air_audit::Recorded;
 pub use air_audit::Residue;
 pub use air_audit::RingError;
+pub use air_audit::Root;
 pub use air_audit::RowMajorMatrix;
 pub use air_audit::RowMajorMatrixView;
 pub use air_audit::RowWindow;
@@ -160,6 +164,16 @@ pub use air_audit::traces;
 pub use air_audit::utils;
 pub use air_audit::with_bits;
 pub use air_audit::word_with_bits;
+pub use air_draft::Claim;
+pub use air_draft::Claimed;
+pub use air_draft::Draft;
+pub use air_draft::ExtClaimed;
+pub use air_draft::ExtDraft;
+pub use air_draft::ExtStep;
+pub use air_draft::Step;
+pub use extension::claims::ExtClaims;
+pub use extension::constraints::ExtConstraints;
+pub use extension::expr::ExtExpr;
 pub use handles::claims::Claims;
 pub use handles::columns::Column;
 pub use handles::columns::Columns;
@@ -169,7 +183,3 @@ pub use handles::windows::Window;
 pub use printing::print_audit;
 pub use printing::print_constraints;
 pub use rows::TraceRows;
-pub use written::claim::Claim;
-pub use written::claim::Claimed;
-pub use written::draft::Draft;
-pub use written::step::Step;

@@ -2,6 +2,10 @@
 #![tactic(auto)]
 
 mod calls;
+mod ext_calls;
+mod ext_product;
+mod ext_refusals;
+mod ext_shown;
 mod random;
 mod refusals;
 mod shown;
@@ -11,5 +15,8 @@ use std::io;
 fn main(rt: HostRuntime) -> io::Result<()> {
     calls::print(&rt)?;
     refusals::print(&rt)?;
+    ext_calls::print(&rt)?;
+    ext_product::print(&rt)?;
+    ext_refusals::print(&rt)?;
     random::print(&rt)
 }

@@ -1,9 +1,8 @@
 //! Claims: what is to be zero, where, and under which label.
 use crate::handles::expr::Expr;
 use crate::handles::shared::Shared;
-use crate::written::claim::{Claim, Claimed};
-use crate::written::step::Step;
 use air_core::AirError;
+use air_draft::{Claim, Claimed, Step};
 use air_field::Field;
 use air_symbolic::BaseLeaf;
 
@@ -19,8 +18,8 @@ pub struct Claims<'a, F: Field> {
 }
 
 impl<'a, F: Field> Claims<'a, F> {
-    // Writes a claim down.
-    fn claim(self, claimed: Claimed) {
+    /// Writes a claim down.
+    pub(crate) fn claim(self, claimed: Claimed) {
         self.shared.claim(Claim {
             claimed,
             condition: self.condition,

@@ -1,4 +1,6 @@
 //! Columns that constraints handed out.
+ghost use Rattle.std.specs.Prelude.{◌≡◌, ◌↔◌, IsTrue};
+
 use crate::handles::expr::Expr;
 use crate::handles::shared::Shared;
 use crate::handles::windows::variable;
@@ -14,7 +16,9 @@ pub struct Column<'a, F: Field> {
 
 impl<'a, F: Field> Column<'a, F> {
     /// Its index in a row.
-    pub fn index(self) -> usize {
+    pub fn index(self) -> usize
+        ensures { result ≡ self.index }
+    {
         self.index
     }
 
@@ -39,12 +43,16 @@ pub struct Columns<'a, F: Field> {
 
 impl<'a, F: Field> Columns<'a, F> {
     /// How many there are.
-    pub fn len(self) -> usize {
+    pub fn len(self) -> usize
+        ensures { result ≡ self.count }
+    {
         self.count
     }
 
     /// Whether there is none.
-    pub fn is_empty(self) -> bool {
+    pub fn is_empty(self) -> bool
+        ensures { IsTrue result ↔ (self.count ≡ 0) }
+    {
         self.count == 0
     }
 

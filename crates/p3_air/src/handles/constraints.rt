@@ -1,13 +1,15 @@
 //! Constraints in the making.
+ghost use Rattle.std.specs.Prelude.{◌≡◌};
+
 use crate::handles::claims::Claims;
 use crate::handles::columns::{Column, Columns};
 use crate::handles::expr::Expr;
 use crate::handles::shared::Shared;
 use crate::handles::windows::{Table, Window, variable};
-use crate::written::draft::Draft;
 use air_audit::FlatAir;
 use air_core::boundary::{BoundaryEnd, BoundaryPublic};
 use air_core::{AirError, BaseEntry};
+use air_draft::Draft;
 use air_field::{Field, RowMajorMatrix};
 use air_symbolic::BaseLeaf;
 use std::alloc::Global;
@@ -17,7 +19,7 @@ use std::alloc::Global;
 /// Nothing is refused while it is written: what goes wrong first is kept, and [`Constraints::into_air`] answers it.
 #[derive(Drop)]
 pub struct Constraints<F: Field> {
-    shared: Shared<F>,
+    pub(crate) shared: Shared<F>,
 }
 
 impl<F: Field> Constraints<F> {
@@ -80,7 +82,9 @@ impl<F: Field> Constraints<F> {
     }
 
     /// Adds columns to the main trace, which lie side by side.
-    pub fn columns(&self, count: usize) -> Columns<'_, F> {
+    pub fn columns(&self, count: usize) -> Columns<'_, F>
+        ensures { result.count ≡ count }
+    {
         let shared = &self.shared;
         Columns {
             shared,

@@ -1,6 +1,6 @@
 //! Expressions.
 use crate::handles::shared::Shared;
-use crate::written::step::Step;
+use air_draft::Step;
 use air_field::Field;
 
 /// An expression of some [`Constraints`](crate::Constraints): a handle, which may be copied. The operators `+`, `-` and

@@ -1,6 +1,6 @@
 //! Operators on expressions and whole numbers.
 use crate::handles::expr::Expr;
-use crate::written::step::Step;
+use air_draft::Step;
 use air_field::Field;
 use std::ops::{Add, AddAssign, Mul, MulAssign, Neg, Sub, SubAssign};
 

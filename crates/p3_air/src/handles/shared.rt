@@ -1,8 +1,6 @@
 //! The draft that handles share.
-use crate::written::claim::Claim;
-use crate::written::draft::Draft;
-use crate::written::step::Step;
 use air_core::AirError;
+use air_draft::{Claim, Draft, Step};
 use air_field::Field;
 use air_symbolic::BaseLeaf;
 use std::cell::{Cell, RefCell};
@@ -36,8 +34,8 @@ impl<F: Field> Shared<F> {
         draft
     }
 
-    // The draft is lent (which no call here does while another writes).
-    fn lose(&self) -> usize {
+    /// The draft is lent (which no call here does while another writes).
+    pub(crate) fn lose(&self) -> usize {
         self.lost.set(true);
         NOTHING
     }

@@ -1,0 +1,4 @@
+pub mod NumberedTerms
+pub mod Refusing
+pub mod RootsMean
+pub mod Recording

@@ -1,0 +1,85 @@
+-- What the calls that write an entry change of a draft.
+use Rattle.std.specs.Prelude.{◌≡◌, ◌⊎◌, ◌+◌, ℕ, List, [], ◌∷◌, ◌++◌, Option, None, Some, IsSome, unwrap_or, slice_get}
+use Rattle.std.specs.Prelude.{String, string_bytes, Vec}
+use Rattle.std.specs.Global.{Global}
+use Rattle.air_core.specs.Texts.{colons}
+use Rattle.air_core.specs.declared.errors.AirError.{AirError}
+use Rattle.air_core.specs.declared.errors.AirError.TheVariants.{Memory, CountOverflow}
+use Rattle.air_core.specs.declared.boundary.BoundaryPublic.{BoundaryPublic}
+use Rattle.air_draft.specs.declared.step.Step.{Step}
+use Rattle.air_draft.specs.declared.claim.Claim.{Claim}
+use Rattle.air_draft.specs.declared.draft.Draft.{Draft}
+use Rattle.air_draft.specs.declared.ext_step.ExtStep.{ExtStep}
+use Rattle.air_draft.specs.declared.ext_draft.ExtDraft.{ExtDraft}
+
+-- the second list is the first with one more item at its end, of which P holds
+abbrev pub OneMore : {A : Type 0} → (A → Type 0) → List A → List A → Type 0
+OneMore {A = A} P xs ys = (x : A) × P x × (ys ≡ xs ++ x ∷ [])
+
+-- a fault that was there stays, and no other than e is noted
+pub record NotesOnly (e : AirError) (before after : Option AirError) : Type 0 where
+  pub first : IsSome before → after ≡ before
+  pub only : (after ≡ before) ⊎ (after ≡ Some e)
+
+-- e is noted if it is the first fault, and all else stays
+pub record NotesFault {F : Type 0} (e : AirError) (a b : Draft F) : Type 0 where
+  pub fault : b.fault ≡ Some (unwrap_or a.fault e)
+  pub others : b ≡ record a { fault = b.fault }
+
+-- one step more
+pub record WritesStep {F : Type 0} (s : Step F) (a b : Draft F) : Type 0 where
+  pub steps : b.fault ≡ None → b.steps.items ≡ a.steps.items ++ s ∷ []
+  pub fault : NotesOnly Memory a.fault b.fault
+  pub others : b ≡ record a { steps = b.steps; fault = b.fault }
+
+-- one step over the extension more
+pub record WritesExtStep {F EF : Type 0} (s : ExtStep F EF) (a b : ExtDraft F EF) : Type 0 where
+  pub steps : b.base.fault ≡ None → b.steps.items ≡ a.steps.items ++ s ∷ []
+  pub fault : NotesOnly Memory a.base.fault b.base.fault
+  pub others : b ≡ record a { base = record a.base { fault = b.base.fault }; steps = b.steps }
+
+-- one claim more
+pub record WritesClaim {F : Type 0} (c : Claim) (a b : Draft F) : Type 0 where
+  pub claims : b.fault ≡ None → b.claims.items ≡ a.claims.items ++ c ∷ []
+  pub fault : NotesOnly Memory a.fault b.fault
+  pub others : b ≡ record a { claims = b.claims; fault = b.fault }
+
+-- one condition more, which has these factors
+pub record WritesCondition {F : Type 0} (factors : List ℕ) (a b : Draft F) : Type 0 where
+  pub conditions : b.fault ≡ None → OneMore (λ v. v.items ≡ factors) a.conditions.items b.conditions.items
+  pub fault : NotesOnly Memory a.fault b.fault
+  pub others : b ≡ record a { conditions = b.conditions; fault = b.fault }
+
+-- the text under a label, if there is one
+abbrev pub text_under : Option (String Global) → List ℕ → List ℕ
+text_under None text = text
+text_under (Some outer) text = string_bytes outer ++ (colons ++ text)
+
+-- the text under the label of a number, if one is given
+abbrev pub label_text : List (String Global) → Option ℕ → List ℕ → List ℕ
+label_text labels None text = text
+label_text labels (Some k) text = text_under (slice_get labels k) text
+
+-- one label more, which has this text
+pub record WritesLabel {F : Type 0} (text : List ℕ) (a b : Draft F) : Type 0 where
+  pub labels : b.fault ≡ None → OneMore (λ s. string_bytes s ≡ text) a.labels.items b.labels.items
+  pub fault : NotesOnly Memory a.fault b.fault
+  pub others : b ≡ record a { labels = b.labels; fault = b.fault }
+
+-- as many columns more
+pub record AddsColumns {F : Type 0} (count : ℕ) (a b : Draft F) : Type 0 where
+  pub width : b.fault ≡ None → b.width ≡ a.width + count
+  pub fault : NotesOnly CountOverflow a.fault b.fault
+  pub others : b ≡ record a { width = b.width; fault = b.fault }
+
+-- one periodic column more, of which P holds
+pub record AddsPeriodic {F : Type 0} (P : Vec F Global → Type 0) (a b : Draft F) : Type 0 where
+  pub periodic : b.fault ≡ None → OneMore P a.periodic.items b.periodic.items
+  pub fault : NotesOnly Memory a.fault b.fault
+  pub others : b ≡ record a { periodic = b.periodic; fault = b.fault }
+
+-- one boundary value more
+pub record AddsBoundary {F : Type 0} (cell : BoundaryPublic) (a b : Draft F) : Type 0 where
+  pub boundary : b.fault ≡ None → b.boundary.items ≡ a.boundary.items ++ cell ∷ []
+  pub fault : NotesOnly Memory a.fault b.fault
+  pub others : b ≡ record a { boundary = b.boundary; fault = b.fault }

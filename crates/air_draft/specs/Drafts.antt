@@ -1,0 +1,44 @@
+-- What the AIR of a draft declares.
+use Rattle.std.specs.Prelude.{◌≡◌, ◌⊎◌, ℕ, List, [], ◌++◌, map, Option, None, Some, String, slice_get, length}
+use Rattle.std.specs.Global.{Global}
+use Rattle.air_field.specs.Ring.{CommRing}
+use Rattle.air_field.specs.Term.{Term}
+use Rattle.air_builder.specs.Assertion.{Assertion, Base}
+use Rattle.air_core.specs.declared.errors.AirError.{AirError}
+use Rattle.air_audit.specs.RecordedAirs.{RecordsBaseTerms}
+use Rattle.air_audit.specs.RootLabels.{bytes_or_none}
+use Rattle.air_draft.specs.declared.claim.Claim.{Claim}
+use Rattle.air_draft.specs.declared.draft.Draft.{Draft}
+use Rattle.air_draft.specs.DraftTerms.{step_terms, term_at, claim_term}
+use Rattle.air_draft.specs.Making.{MakingRefuses, SomeOverflows}
+
+-- what each claim says to be zero, in order
+abbrev pub claim_terms : {F : Type 0} → F → Draft F → List (Term F)
+claim_terms one d = map (claim_term one (term_at (step_terms d.steps.items)) d.conditions.items) d.claims.items
+
+-- the list that a draft declares: that each of these is zero
+abbrev pub declared_by : {F : Type 0} → F → Draft F → List (Assertion F)
+declared_by one d = map (λ t. Base t) (claim_terms one d)
+
+-- a list of assertions records what a draft declares: at each place a term with the polynomial, the values and at most the
+-- degree of the draft's
+abbrev pub RecordsDraft : {F : Type 0} → CommRing F → F → Draft F → List (Assertion F) → Type 0
+RecordsDraft r one d constraints = RecordsBaseTerms r constraints (declared_by one d)
+
+-- the text of a claim's label; it is empty where it has none
+abbrev pub claim_label : List (String Global) → Option ℕ → List ℕ
+claim_label labels None = []
+claim_label labels (Some k) = bytes_or_none (slice_get labels k)
+
+-- the texts of all claims' labels
+abbrev pub claim_labels : List (String Global) → List Claim → List (List ℕ)
+claim_labels labels claims = map (λ c. claim_label labels c.label) claims
+
+-- a step or a claim of the draft has a degree past `usize`
+abbrev pub DraftOverflows : {F : Type 0} → F → Draft F → Type 0
+DraftOverflows one d = SomeOverflows (step_terms d.steps.items ++ claim_terms one d)
+
+-- Why a draft makes no AIR: what went wrong first while it was written. Only where nothing did, what the making of its
+-- expressions refuses.
+abbrev pub DraftRefuses : {F : Type 0} → F → Draft F → AirError → Type 0
+DraftRefuses one d e = (d.fault ≡ Some e) ⊎ ((d.fault ≡ None) × MakingRefuses (length d.steps.items) (DraftOverflows one d) e)

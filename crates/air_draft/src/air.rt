@@ -1,0 +1,119 @@
+//! The AIR that a draft makes.
+ghost use Rattle.std.specs.List.{AllZip};
+ghost use Rattle.std.specs.Prelude.{◌≡◌, length, map, None, IfOk, IfErr, string_bytes};
+ghost use Rattle.air_symbolic.specs.BaseLeaves.{base_reads};
+ghost use Rattle.air_symbolic.specs.Pools.{PoolMeans};
+ghost use Rattle.air_draft.specs.Making.{MakingRefuses};
+ghost use Rattle.air_draft.specs.Drafts.{claim_terms, RecordsDraft, claim_label, claim_labels, DraftOverflows, DraftRefuses};
+
+use crate::claim::Claim;
+use crate::draft::Draft;
+use crate::roots::make_roots;
+use crate::steps::make_steps;
+use air_audit::{BaseAir, FlatAir};
+use air_core::AirError;
+use air_field::Field;
+use air_symbolic::{BaseLeaf, ExprId, ExprPool};
+use std::alloc::{AllocError, Global};
+
+/// What is made of a draft: the pool, the roots in it and their labels.
+#[derive(Drop)]
+struct Made<F: Field> {
+    pool: ExprPool<BaseLeaf<F>>,
+    roots: Vec<ExprId<BaseLeaf<F>>>,
+    labels: Vec<String>,
+}
+
+/// The text of a claim's label, which is empty where it has none.
+fn claim_label(labels: &[String], label: Option<usize>) -> &str
+    ensures { result.now ≡ claim_label labels.now label }
+{
+    match label {
+        Some(number) => match labels.get(number) {
+            Some(text) => text,
+            None => "",
+        },
+        None => "",
+    }
+}
+
+/// The labels of claims, in order.
+pub(crate) fn claim_labels(
+    alloc: Global,
+    labels: &[String],
+    claims: &[Claim],
+) -> Result<Vec<String>, AllocError>
+    ensures { IfOk result (λ texts. map string_bytes texts.items
+        ≡ claim_labels labels.now claims.now) }
+{
+    let mut texts = Vec::with_capacity(alloc, claims.len())?;
+    for claim in claims {
+        let text = String::from_str(alloc, claim_label(labels, claim.label))?;
+        texts.push(text)?;
+    }
+    Ok(texts)
+}
+
+impl<F: Field> Draft<F> {
+    // The expressions and labels of its claims.
+    fn make(&self) -> Result<Made<F>, AirError>
+        ensures means { IfOk result (λ m. AllZip (PoolMeans base_reads F.ring m.pool)
+            m.roots.items (claim_terms F.ONE self.now)) }
+        ensures labels { IfOk result (λ m. map string_bytes m.labels.items
+            ≡ claim_labels self.now.labels.items self.now.claims.items) }
+        ensures refused { IfErr result (MakingRefuses (length self.now.steps.items)
+            (DraftOverflows F.ONE self.now)) }
+    {
+        let alloc = *self.steps.allocator();
+        let mut pool = ExprPool::new(alloc);
+        let made = make_steps(alloc, &mut pool, &self.steps)?;
+        let roots = make_roots(alloc, &mut pool, &made, &self.conditions, &self.claims)?;
+        let labels = claim_labels(alloc, &self.labels, &self.claims)?;
+        Ok(Made {
+            pool,
+            roots,
+            labels,
+        })
+    }
+
+    /// The AIR that declares what the draft claims, in order: a claim under conditions times their factors.
+    ///
+    /// Refused are what went wrong first while it was written, a number that no step has (`IndexPastTotal`), a degree
+    /// past `usize` (`DegreeOverflow`), and `Memory`.
+    pub fn into_air(self) -> Result<FlatAir<F>, AirError>
+        ensures records { IfOk result (λ a. RecordsDraft F.ring F.ONE self
+            (⟦<FlatAir<F> as BaseAir<F>>⟧.declaration a).constraints) }
+        ensures width { IfOk result (λ a. a.width ≡ self.width) }
+        ensures public_values { IfOk result (λ a. a.num_public_values ≡ self.num_public_values) }
+        ensures preprocessed { IfOk result (λ a. a.preprocessed ≡ self.preprocessed) }
+        ensures periodic { IfOk result (λ a. a.periodic ≡ self.periodic) }
+        ensures boundary { IfOk result (λ a. a.cells ≡ self.boundary) }
+        ensures labels { IfOk result (λ a. map string_bytes a.labels.items
+            ≡ claim_labels self.labels.items self.claims.items) }
+        ensures faultless { IfOk result (λ _. self.fault ≡ None) }
+        ensures refused { IfErr result (DraftRefuses F.ONE self) }
+    {
+        if let Some(error) = self.fault {
+            return Err(error);
+        }
+        let Made {
+            pool,
+            roots,
+            labels,
+        } = self.make()?;
+        let Draft {
+            width,
+            num_public_values,
+            preprocessed,
+            periodic,
+            boundary,
+            ..
+        } = self;
+        let air = FlatAir::new(pool, roots, width, num_public_values, periodic, boundary)?;
+        let air = air.with_labels(labels);
+        match preprocessed {
+            Some(table) => Ok(air.with_preprocessed(table)),
+            None => Ok(air),
+        }
+    }
+}

@@ -1,7 +1,0 @@
-use Rattle.std.proofs.Common.{◌≡◌, map, take}
-use Rattle.air_field.specs.Ring.{image}
-use Rattle.p3_air.proofs.written.draft.elements_of.Given as goal
-
--- the elements of the numbers so far
-abbrev pub invariant-loop-n : goal.invariant-loop-n
-invariant-loop-n g l = l.elements.items ≡ map (image g.F.Field.ring) (take l.n-index l.numbers)

@@ -1,0 +1,134 @@
+//! What is refused of constraints over an extension.
+use crate::ext_shown::print_ext_shown;
+use p3_air::{
+    AirError, BabyBear, BinomialExtensionField as Ext, Claim, Claimed, Constraints, Draft,
+    ExtClaimed, ExtConstraints, ExtDraft, ExtEntry, ExtStep, FlatExtAir, SymbolicVariableExt,
+};
+use std::alloc::Global;
+use std::io;
+
+type Air = Result<FlatExtAir<BabyBear, Ext>, AirError>;
+
+type Writing = ExtConstraints<BabyBear, Ext>;
+
+fn foreign_operand(alloc: Global) -> Air {
+    let c = Writing::new(alloc, 1);
+    let other = Writing::new(alloc, 1);
+    c.assert_zero_ext(c.permutation(0) + other.permutation(0));
+    c.into_air()
+}
+
+fn foreign_base(alloc: Global) -> Air {
+    let c = Writing::new(alloc, 1);
+    let other: Constraints<BabyBear> = Constraints::new(alloc, 1);
+    c.assert_zero_ext(c.permutation(0) * other.current(0));
+    c.into_air()
+}
+
+fn foreign_claim(alloc: Global) -> Air {
+    let c = Writing::new(alloc, 1);
+    let other = Writing::new(alloc, 1);
+    c.assert_zero_ext(other.permutation(0));
+    c.into_air()
+}
+
+fn foreign_condition(alloc: Global) -> Air {
+    let c = Writing::new(alloc, 1);
+    let other = Writing::new(alloc, 1);
+    c.when(other.current(0)).assert_zero_ext(c.permutation(0));
+    c.into_air()
+}
+
+// The column past those handed out comes first, and then an expression of other constraints.
+fn first_fault(alloc: Global) -> Air {
+    let c = Writing::new(alloc, 0);
+    let other = Writing::new(alloc, 1);
+    c.assert_zero(c.columns(2).current(2));
+    c.assert_zero_ext(other.permutation(0));
+    c.into_air()
+}
+
+fn great_degree(alloc: Global) -> Air {
+    let c = Writing::new(alloc, 1);
+    let mut z = c.permutation(0);
+    for _ in 0..64 {
+        z = z.square();
+    }
+    c.assert_zero_ext(z);
+    c.into_air()
+}
+
+// The degree of 2^63 is within, and under a condition of that degree it isn't.
+fn great_degree_under(alloc: Global) -> Air {
+    let c = Writing::new(alloc, 1);
+    let (mut z, mut x) = (c.permutation(0), c.current(0));
+    for _ in 0..63 {
+        z = z.square();
+        x = x.square();
+    }
+    c.when(x).assert_zero_ext(z);
+    c.into_air()
+}
+
+// A draft with one claim of a step over the extension, which it may have.
+fn draft_of(alloc: Global, step: ExtStep<BabyBear, Ext>, number: usize) -> Air {
+    let mut draft = ExtDraft::new(Draft::new(alloc, 1));
+    let _first = draft.step(step);
+    draft.base.claim(Claim {
+        claimed: Claimed::Extension(ExtClaimed::Zero(number)),
+        condition: None,
+        label: None,
+    });
+    draft.into_air()
+}
+
+fn column_at(offset: usize) -> ExtStep<BabyBear, Ext> {
+    ExtStep::Variable(SymbolicVariableExt::new(ExtEntry::Permutation { offset }, 0))
+}
+
+// A claim over an extension in a draft that has none.
+fn claim_without_extension(alloc: Global) -> Air {
+    let mut draft: Draft<BabyBear> = Draft::new(alloc, 1);
+    draft.claim(Claim {
+        claimed: Claimed::Extension(ExtClaimed::Equal(3, 4)),
+        condition: None,
+        label: None,
+    });
+    match draft.into_air() {
+        Ok(_) => ExtDraft::new(Draft::new(alloc, 1)).into_air(),
+        Err(error) => Err(error),
+    }
+}
+
+/// Prints what is refused.
+pub fn print(rt: &HostRuntime) -> io::Result<()> {
+    let alloc = rt.alloc();
+    print_ext_shown(rt, "foreign extension operand", foreign_operand(alloc))?;
+    print_ext_shown(rt, "foreign base operand", foreign_base(alloc))?;
+    print_ext_shown(rt, "foreign extension claim", foreign_claim(alloc))?;
+    print_ext_shown(rt, "foreign extension condition", foreign_condition(alloc))?;
+    print_ext_shown(rt, "the first fault", first_fault(alloc))?;
+    print_ext_shown(rt, "great extension degree", great_degree(alloc))?;
+    print_ext_shown(
+        rt,
+        "great degree under a condition",
+        great_degree_under(alloc),
+    )?;
+    print_ext_shown(rt, "a row past the next", draft_of(alloc, column_at(2), 0))?;
+    print_ext_shown(rt, "a step that is there", draft_of(alloc, column_at(1), 0))?;
+    print_ext_shown(
+        rt,
+        "a step that isn't there",
+        draft_of(alloc, column_at(1), 1),
+    )?;
+    print_ext_shown(
+        rt,
+        "a base step that isn't there",
+        draft_of(alloc, ExtStep::Lift(0), 0),
+    )?;
+    print_ext_shown(
+        rt,
+        "a claim without extension",
+        claim_without_extension(alloc),
+    )
+}
