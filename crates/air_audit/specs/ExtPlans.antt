@@ -21,12 +21,12 @@ use Rattle.air_audit.specs.declared.flat.root.Root.TheVariants as root
 use Rattle.air_audit.specs.declared.flat.step.Step.{Step}
 use Rattle.air_audit.specs.Plans.{number_at, IsPlaceOf, IsUsed, IsPlan}
 
--- Of so many numbers each has an entry in the table of places; the entry of each root is its place among the numbers.
+-- Each of n numbers has an entry in the table of places; the entry of each root is its place among the numbers.
 pub record HaveRoots (count : ℕ) (numbers table roots : List ℕ) : Type 0 where
   pub long : length table ≡ count
   pub placed : All (λ i. IsPlaceOf numbers (length numbers) (slice_index_or table i 0) i) roots
 
--- The numbers that the roots need, in an order in which operands are before what is made of them: the table has their places.
+-- The numbers that the roots need, in an order in which operands come before their results: the table has their places.
 pub record IsOrder {A F : Type 0} (l : Leaves A F) (ns : List (SymbolicExpr A)) (roots numbers table : List ℕ) : Type 0 where
   pub here : (k : ℕ) → k < length numbers → number_at numbers k < length ns
   pub before : (k : ℕ) → k < length numbers → (n : SymbolicExpr A) → IsNode l ns (number_at numbers k) n

@@ -24,6 +24,6 @@ abbrev pub zero_at_root : {F EF : Type 0} → Basis F EF → ExtNodes F EF → R
 zero_at_root basis p (root.Base i) = Base (term_at base_reads p.base i)
 zero_at_root basis p (root.Extension i) = Extension (term_at (ext_reads basis) p i)
 
--- the same of each root, in order
+-- one for each root, in order
 abbrev pub zero_at_ext_roots : {F EF : Type 0} → Basis F EF → ExtNodes F EF → List (Root F EF) → List (Assertion F)
 zero_at_ext_roots basis p roots = map (zero_at_root basis p) roots

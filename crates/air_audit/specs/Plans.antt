@@ -85,7 +85,7 @@ some_has_operand i (Some n) = has_operand i n
 abbrev pub IsUsed : {A : Type 0} → List (SymbolicExpr A) → List ℕ → List ℕ → ℕ → Type 0
 IsUsed ns roots numbers i = (list_any (λ r. i == r) roots || list_any (λ j. some_has_operand i (slice_get ns j)) numbers) ≡ Bool.true
 
--- The steps make, in order, the nodes of some numbers, each of which the roots need, and the roots stand at these places.
+-- The steps make, in order, the nodes of some numbers, each of which the roots need; the roots are at these places.
 pub record IsPlan {A F : Type 0} (l : Leaves A F) (ns : List (SymbolicExpr A)) (roots numbers : List ℕ) (steps : List Step) (places : List ℕ) : Type 0 where
   pub here : (k : ℕ) → k < length numbers → number_at numbers k < length ns
   pub made : AreSteps l ns numbers steps
@@ -93,7 +93,7 @@ pub record IsPlan {A F : Type 0} (l : Leaves A F) (ns : List (SymbolicExpr A)) (
   pub stand : AllZip (λ p i. i ≡ number_at numbers p) places roots
   pub used : (k : ℕ) → k < length numbers → IsUsed ns roots numbers (number_at numbers k)
 
--- Each marked number has a place, where it stands, and those that are less stand before it.
+-- Each marked number has a place, and those that are less have places before it.
 pub record HavePlaces (marks : List (Option ℕ)) (numbers places : List ℕ) : Type 0 where
   pub long : length places ≡ length marks
   pub marked : (k : ℕ) → k < length numbers → Marked marks (number_at numbers k)

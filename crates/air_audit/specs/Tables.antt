@@ -15,7 +15,7 @@ use Rattle.air_audit.specs.declared.flat.root.Root.TheVariants as root
 abbrev pub IsMade : {S E F : Type 0} → (S → E → Term F → Type 0) → (S → Leaf → Type 0) → S → Term F → E → Type 0
 IsMade means missing b t x = IsUsable means missing x t b
 
--- the same of a builder as its laws see it
+-- in a builder as its laws see it
 abbrev pub IsMadeIn : {S R E F : Type 0} → BuilderView S R E F → S → Term F → E → Type 0
 IsMadeIn view = IsMade (MeansIn view) view.missing
 
@@ -55,7 +55,7 @@ abbrev pub MakesAll : {S E F X : Type 0} → (S → E → Term F → Type 0) →
     → (S → Leaf → Type 0) → (S → X → List (Assertion F) → Type 0) → S → S → Result (Vec E Global) X → List (Term F) → Type 0
 MakesAll means grew missing refuses a b r ts = Makes (λ xs. xs.items) means grew missing refuses a b r ts
 
--- the same of a builder as its laws see it, where memory may be wanting besides; and of one expression
+-- in a builder as its laws see it, or out of memory: several expressions; one expression
 abbrev pub MakesAllOrMemory : {S R E F : Type 0} → BuilderView S R E F → S → S → Result (Vec E Global) AirError → List (Term F) → Type 0
 MakesAllOrMemory view a b r ts = MakesAll (MeansIn view) view.grew view.missing (OrMemory view.refuses) a b r ts
 

@@ -16,7 +16,7 @@ use air_field::Field;
 use air_symbolic::{BaseLeaf, ExprId, ExprPool};
 use std::alloc::{AllocError, Global};
 
-/// What is made of a draft: the pool, the roots in it and their labels.
+/// What a draft makes: the pool, the roots in it and their labels.
 #[derive(Drop)]
 struct Made<F: Field> {
     pool: ExprPool<BaseLeaf<F>>,

@@ -21,7 +21,7 @@ use air_symbolic::{BaseLeaf, ExprId, ExprPool};
 pub struct FlatAir<F: Field> {
     /// The expressions.
     pub pool: ExprPool<BaseLeaf<F>>,
-    /// What is zero on every row, in order.
+    /// The expressions that are zero on every row, in order.
     pub roots: Vec<ExprId<BaseLeaf<F>>>,
     /// The number of columns of the main trace.
     pub width: usize,
@@ -45,9 +45,9 @@ pub struct FlatAir<F: Field> {
 }
 
 impl<F: Field> FlatAir<F> {
-    /// The AIR that asserts the roots in order; its main trace has `width` columns, and it has no preprocessed table
-    /// ([`FlatAir::with_preprocessed`] gives it one). Each root must be a number of the pool. What the roots reach is
-    /// looked up here, once, and no longer at a row. It refuses for want of memory alone (`Memory`).
+    /// The AIR that asserts the roots in order. Its main trace has `width` columns; [`FlatAir::with_preprocessed`] adds a
+    /// preprocessed trace. Each root must be a number of the pool. The nodes that the roots reach are looked up here,
+    /// once, and no longer at a row.
     pub fn new(
         pool: ExprPool<BaseLeaf<F>>,
         roots: Vec<ExprId<BaseLeaf<F>>>,

@@ -12,7 +12,7 @@ use air_builder::{AirBuilder, AirError, View};
 use air_field::Algebra;
 use air_symbolic::{BaseEntry, BaseLeaf, SymbolicVariable};
 
-// A variable; a window has the rows 0 and 1 alone.
+// A variable; a window has only the rows 0 and 1.
 fn make_variable<AB: AirBuilder>(
     builder: &mut AB,
     variable: SymbolicVariable<AB::F>,

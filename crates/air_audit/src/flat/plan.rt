@@ -29,7 +29,7 @@ pub(crate) struct Plan<F: Field> {
     pub(crate) places: Vec<usize>,
 }
 
-// Adds what is marked at a place, if anything is.
+// Adds the number that is marked at a place, if one is.
 fn push_marked<A: SymLeaf>(
     numbers: &mut Vec<ExprId<A>>,
     mark: Option<ExprId<A>>,
@@ -75,7 +75,7 @@ fn is_selector<F: Field>(pool: &ExprPool<BaseLeaf<F>>, id: ExprId<BaseLeaf<F>>) 
     }
 }
 
-// The step that makes a node, whose operands stand at these places.
+// The step that makes a node, whose operands are at these places.
 fn step_of<F: Field>(
     pool: &ExprPool<BaseLeaf<F>>,
     node: SymbolicExpr<BaseLeaf<F>>,
@@ -111,7 +111,7 @@ fn step_of<F: Field>(
     }
 }
 
-// The steps that make the numbers, whose operands stand before them at these places.
+// The steps that make the numbers, whose operands are before them, at these places.
 fn steps_of<F: Field>(
     alloc: Global,
     pool: &ExprPool<BaseLeaf<F>>,

@@ -12,10 +12,13 @@ use air_field::Algebra;
 use air_symbolic::{BaseLeaf, ExprId, ExprPool};
 use std::alloc::Global;
 
-/// Makes what an expression of the pool means in the builder. Nothing is asserted; each node that the expression
-/// reaches is made once, and no other is looked at. A leaf that isn't there is refused by its name, and an offset other
-/// than 0 and 1 whatever the column (`RowOffset`). Besides these the builder's ring may refuse, and memory may be
-/// wanting.
+/// Makes an expression of the pool in the builder. Nothing is asserted; each node that the expression reaches is made
+/// once, and no other is visited.
+///
+/// # Errors
+///
+/// The name of a leaf that the builder lacks; `RowOffset` for an offset other than 0 and 1, whatever the column; an error
+/// of the builder's ring; `Memory`.
 pub fn resolve<AB: AirBuilder>(
     alloc: Global,
     pool: &ExprPool<BaseLeaf<AB::F>>,
@@ -31,7 +34,7 @@ pub fn resolve<AB: AirBuilder>(
     Ok(expression_at(&expressions, 0))
 }
 
-/// The same of several expressions, in order: what they have in common is made once.
+/// Makes several expressions, in order; a part that they share is made once. The errors are those of `resolve`.
 pub fn resolve_all<AB: AirBuilder>(
     alloc: Global,
     pool: &ExprPool<BaseLeaf<AB::F>>,

@@ -2,7 +2,7 @@
 
 use air_symbolic::{BaseLeaf, ExprId, ExtLeaf};
 
-/// What is zero on every row: an expression of the base pool, or one over the extension.
+/// An expression that is zero on every row: one of the base pool, or one over the extension.
 #[derive(Clone, Copy, Debug, PartialEq, Eq)]
 pub enum Root<F, EF> {
     Base(ExprId<BaseLeaf<F>>),

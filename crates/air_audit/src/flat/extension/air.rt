@@ -22,7 +22,7 @@ use air_symbolic::{ExprPool, ExtLeaf};
 pub struct FlatExtAir<F: Field, EF: ExtensionField<F>> {
     /// The expressions over the extension, and under them those of the base pool.
     pub pool: ExprPool<ExtLeaf<F, EF>>,
-    /// What is zero on every row, in order.
+    /// The expressions that are zero on every row, in order.
     pub roots: Vec<Root<F, EF>>,
     /// The number of columns of the main trace.
     pub width: usize,
@@ -49,11 +49,14 @@ pub struct FlatExtAir<F: Field, EF: ExtensionField<F>> {
 }
 
 impl<F: Field, EF: ExtensionField<F>> FlatExtAir<F, EF> {
-    /// The AIR that asserts the roots in order, a base root in the trace's field and another over the extension; they
-    /// share one counter. Its main trace has `width` columns, and it has no preprocessed table
-    /// ([`FlatExtAir::with_preprocessed`] gives it one). Each root must be a number of its pool. What the roots reach is
-    /// looked up here, once, and no longer at a row. It refuses a column of the permutation trace that they reach on
-    /// another row than this one and the next (`RowOffset`), and for want of memory (`Memory`).
+    /// The AIR that asserts the roots in order: a base root as a base constraint, another over the extension. Both kinds
+    /// share one counter. Its main trace has `width` columns; [`FlatExtAir::with_preprocessed`] adds a preprocessed
+    /// trace. Each root must be a number of its pool. The nodes that the roots reach are looked up here, once, and no
+    /// longer at a row.
+    ///
+    /// # Errors
+    ///
+    /// `RowOffset` if they reach a column of the permutation trace in a row other than this one and the next; `Memory`.
     pub fn new(
         pool: ExprPool<ExtLeaf<F, EF>>,
         roots: Vec<Root<F, EF>>,

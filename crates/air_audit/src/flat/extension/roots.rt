@@ -72,7 +72,7 @@ pub(crate) fn push_base_roots<F: Field, EF: ExtensionField<F>>(
     Ok(())
 }
 
-// A window has the rows 0 and 1 alone.
+// A window has only the rows 0 and 1.
 fn check_window<F: Field, EF: ExtensionField<F>>(
     variable: SymbolicVariableExt<F, EF>,
 ) -> Result<(), AirError>
