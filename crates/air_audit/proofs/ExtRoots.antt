@@ -1,5 +1,5 @@
 -- Roots of both pools, and what of the base pool is made for them.
-use Rattle.std.proofs.Common.{◌≡◌, ◌⊎◌, ℕ, zero, suc, ◌+◌, ◌<◌, List, [], ◌∷◌, ◌++◌, length, get_or, slice_get, take, All, Option, Some, inl, inr, refl, sym, subst, ap, ◌∙◌, arith}
+use Rattle.std.proofs.Common.{◌≡◌, ℕ, zero, suc, ◌+◌, ◌<◌, List, [], ◌∷◌, ◌++◌, length, get_or, slice_get, take, All, Some, refl, sym, subst, ap, ◌∙◌, arith}
 use Rattle.std.proofs.lemmas.List.{take_more, append-nil, append_assoc}
 use Rattle.std.proofs.lemmas.List.Elements.{All-append}
 use Rattle.air_field.specs.Extension.{Basis}
@@ -19,7 +19,6 @@ use Rattle.air_audit.specs.ExtPlans.{base_ids, ext_ids, lifted_of, lifted_at, li
 use Rattle.air_audit.specs.FlatExtAirs.{RootHere}
 use Rattle.air_audit.specs.Plans.{number_at}
 use Rattle.air_audit.proofs.Needed.{number_reached}
-use Rattle.air_audit.proofs.Planning.{order_here}
 
 pub no_elements : {X : Type 0} (P : X → Type 0) → All P []
 no_elements P k d lt = absurd (omega (arith, lt))

@@ -1,18 +1,18 @@
 -- The parts of what an AIR asserts over an extension, and the assertion of its roots.
 use Rattle.std.specs.List.{AllZip}
-use Rattle.std.proofs.Common.{◌≡◌, ℕ, ◌+◌, ◌<◌, ◌≤◌, List, [], ◌∷◌, ◌++◌, length, get_or, slice_get, map, take, All, Some, Result, Ok, Err, inl, inr, refl, sym, subst, arith}
+use Rattle.std.proofs.Common.{◌≡◌, ℕ, ◌+◌, ◌<◌, ◌≤◌, List, [], ◌∷◌, length, get_or, slice_get, take, All, Some, Result, Ok, Err, inl, inr, refl, sym, subst, arith}
 use Rattle.std.specs.Result.{IsErrAnd}
 use Rattle.std.proofs.lemmas.List.{get_or_default}
 use Rattle.std.proofs.lemmas.List.Elements.{All-append}
 use Rattle.air_field.specs.Extension.{Basis}
 use Rattle.air_field.specs.Part.{whole}
-use Rattle.air_field.specs.Term.{Leaf, Term, with_leaves}
+use Rattle.air_field.specs.Term.{Term}
 use Rattle.air_core.specs.declared.errors.AirError.{AirError}
 use Rattle.air_symbolic.specs.BaseLeaves.{base_reads}
 use Rattle.air_symbolic.specs.ExtLeaves.{ext_reads}
 use Rattle.air_symbolic.specs.ExtPool.{ExtNodes}
 use Rattle.air_symbolic.specs.Nodes.{IsNode, WellFormed}
-use Rattle.air_symbolic.specs.Pools.{IsPool, term_at, size}
+use Rattle.air_symbolic.specs.Pools.{term_at}
 use Rattle.air_symbolic.specs.laws.Sharing.{found}
 use Rattle.air_symbolic.specs.declared.leaves.ext_leaf.ExtLeaf.{ExtLeaf}
 use Rattle.air_symbolic.specs.declared.leaves.ext_leaf.ExtLeaf.TheVariants as leaf
@@ -28,9 +28,9 @@ use Rattle.air_builder.specs.laws.Extensions.{over_extension}
 use Rattle.air_audit.specs.declared.flat.root.Root.{Root}
 use Rattle.air_audit.specs.declared.flat.root.Root.TheVariants as root
 use Rattle.air_audit.specs.Plans.{IsPlaceOf}
-use Rattle.air_audit.specs.ExtPlans.{base_ids, ext_ids, lifted_of, lifted_at, lifted_ids, made_of_base, HaveRoots, IsOrder}
+use Rattle.air_audit.specs.ExtPlans.{base_ids, ext_ids, lifted_of, lifted_at, lifted_ids, made_of_base, IsOrder}
 use Rattle.air_audit.specs.FlatExtAirs.{zero_at_root, zero_at_ext_roots}
-use Rattle.air_audit.specs.Tables.{IsMade, HasAt, HasNumber, RootHas, AssertsRoot, TableMade}
+use Rattle.air_audit.specs.Tables.{IsMade, RootHas, AssertsRoot, TableMade}
 use Rattle.air_audit.proofs.Asserting.{as_another, made_has}
 use Rattle.air_audit.proofs.ExtRoots.{no_elements, all_and, all_rest}
 use Rattle.air_audit.proofs.Making.{read_is, there_before}

@@ -1,5 +1,5 @@
 -- AIRs whose constraints are expressions of a pool over an extension, and of its base pool.
-use Rattle.std.specs.Prelude.{ℕ, ◌<◌, List, map, All}
+use Rattle.std.specs.Prelude.{◌<◌, List, map, All}
 use Rattle.air_field.specs.Extension.{Basis}
 use Rattle.air_symbolic.specs.BaseLeaves.{base_reads}
 use Rattle.air_symbolic.specs.ExtLeaves.{ext_reads}

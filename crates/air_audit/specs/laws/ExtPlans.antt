@@ -15,7 +15,7 @@ use Rattle.air_symbolic.specs.declared.pools.expr.SymbolicExpr.{SymbolicExpr}
 use Rattle.air_symbolic.specs.declared.pools.expr.SymbolicExpr.TheVariants as node
 use Rattle.air_audit.specs.declared.flat.root.Root.{Root}
 use Rattle.air_audit.specs.declared.flat.step.Step.{Step}
-use Rattle.air_audit.specs.Plans.{IsPlaceOf, IsPlan}
+use Rattle.air_audit.specs.Plans.{IsPlaceOf}
 use Rattle.air_audit.specs.ExtPlans.{IsOfExtWindow, NodeInWindow, InWindow, IsOrder, IsExtPlan}
 use Rattle.air_audit.specs.laws.Plans.{IsPlan-prop}
 

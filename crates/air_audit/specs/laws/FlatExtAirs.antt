@@ -4,7 +4,7 @@ use Rattle.std.proofs.Props.{props}
 use Rattle.air_field.specs.Extension.{Basis}
 use Rattle.air_symbolic.specs.ExtLeaves.{BaseNodes, ext_reads, ext_valid}
 use Rattle.air_symbolic.specs.ExtPool.{ExtNodes}
-use Rattle.air_symbolic.specs.Nodes.{NodeFits, WellFormed}
+use Rattle.air_symbolic.specs.Nodes.{NodeFits}
 use Rattle.air_symbolic.specs.Pools.{IsPool}
 use Rattle.air_symbolic.specs.laws.OnePool.{base_pool-prop}
 use Rattle.air_symbolic.specs.declared.leaves.ext_leaf.ExtLeaf.{ExtLeaf}

@@ -2,7 +2,7 @@ use Rattle.std.specs.List.{AllZip}
 use Rattle.std.proofs.Common.{◌≡◌, ◌<◌, length, get_or, All, subst, sym}
 use Rattle.air_symbolic.specs.BaseLeaves.{base_leaves}
 use Rattle.air_audit.specs.Plans.{AreSteps}
-use Rattle.air_audit.proofs.Planning.{order_here, roots_long, is_plan}
+use Rattle.air_audit.proofs.Planning.{order_here, is_plan}
 use Rattle.air_audit.proofs.flat.plan.plan_with_places.Goals as goal
 
 pub steps_of-requires-clause-here : goal.steps_of-requires-clause-here

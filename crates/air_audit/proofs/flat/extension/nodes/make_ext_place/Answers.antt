@@ -1,10 +1,10 @@
-use Rattle.std.proofs.Common.{◌≡◌, ◌<◌, slice_get, Some, subst, sym, ap, ◌∙◌}
+use Rattle.std.proofs.Common.{slice_get, Some, subst, sym, ap, ◌∙◌}
 use Rattle.std.proofs.lemmas.List.{get_or_default}
 use Rattle.air_builder.specs.Builders.{Means}
 use Rattle.air_builder.specs.laws.Extensions.{over_extension}
 use Rattle.air_symbolic.specs.ExtLeaves.{ext_reads}
 use Rattle.air_symbolic.specs.Nodes.{IsNode}
-use Rattle.air_symbolic.specs.Pools.{term_at, size}
+use Rattle.air_symbolic.specs.Pools.{term_at}
 use Rattle.air_symbolic.specs.Reach.{EachOperand}
 use Rattle.air_audit.specs.ExtPlans.{ext_ids}
 use Rattle.air_audit.specs.Tables.{IsMade, HasNumber}

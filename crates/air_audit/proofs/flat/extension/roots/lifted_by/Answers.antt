@@ -1,8 +1,8 @@
-use Rattle.std.proofs.Common.{◌≡◌, ◌++◌, slice_get, Some, inl, inr, ⊎_elim, ap, subst, sym, ◌∙◌}
+use Rattle.std.proofs.Common.{◌≡◌, ◌++◌, slice_get, inl, inr, ⊎_elim, ap, subst, sym, ◌∙◌}
 use Rattle.std.proofs.lemmas.List.{get_or_default}
 use Rattle.std.proofs.lemmas.Result.{err_from_is_err_and}
 use Rattle.air_core.specs.declared.errors.AirError.TheVariants.{Memory}
-use Rattle.air_audit.specs.ExtPlans.{lifted_of, InWindow, RefusesNode, RefusesAt, SomeRefuses}
+use Rattle.air_audit.specs.ExtPlans.{lifted_of, InWindow, RefusesNode, RefusesAt}
 use Rattle.air_audit.proofs.ExtRoots.{lifted_ids-more, all_more}
 use Rattle.air_audit.proofs.flat.extension.roots.lifted_by.Goals as goal
 

@@ -1,4 +1,4 @@
-use Rattle.std.proofs.Common.{◌≡◌, ◌<◌, [], length, inr, arith, sym, subst}
+use Rattle.std.proofs.Common.{◌<◌, [], length, inr, arith, sym, subst}
 use Rattle.std.proofs.lemmas.Result.{err_from_is_err_and}
 use Rattle.std.proofs.lemmas.List.{length_push}
 use Rattle.air_symbolic.specs.BaseLeaves.{base_reads}

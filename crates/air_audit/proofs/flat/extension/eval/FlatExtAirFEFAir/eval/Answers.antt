@@ -1,4 +1,4 @@
-use Rattle.std.proofs.Common.{◌≡◌, ◌≢◌, ◌<◌, ◌∙◌, ⊎_elim, eqb, ◌==◌, ℕ, List, zero, suc, true, false, [], ◌∷◌, map, length, All, Ok, inl, inr, arith, refl, sym, ap, subst}
+use Rattle.std.proofs.Common.{◌≡◌, ◌≢◌, ◌<◌, ◌∙◌, ⊎_elim, eqb, ◌==◌, ℕ, List, zero, suc, true, false, [], ◌∷◌, map, length, All, Ok, inl, inr, arith, refl, sym, subst}
 use Rattle.std.proofs.lemmas.Bool.Decides.{eqb_tells}
 use Rattle.std.proofs.lemmas.List.{length-map}
 use Rattle.std.proofs.lemmas.Result.{err_from_is_err_and}
@@ -12,7 +12,7 @@ use Rattle.air_builder.specs.Batches.{AssertedList, OrMemory}
 use Rattle.air_audit.specs.Plans.{number_at, IsPlan}
 use Rattle.air_audit.specs.ExtPlans.{made_of_base}
 use Rattle.air_audit.specs.FlatExtAirs.{zero_at_root, zero_at_ext_roots}
-use Rattle.air_audit.specs.Tables.{IsMade, RootHas, AssertsRoot, TableMade}
+use Rattle.air_audit.specs.Tables.{IsMade, AssertsRoot, TableMade}
 use Rattle.air_audit.proofs.Asserting.{none_asserted, list_asserted, list_refused}
 use Rattle.air_audit.proofs.Making.{table_lasts}
 use Rattle.air_audit.proofs.Needed.{roots_are, plan_of_places}
