@@ -79,7 +79,8 @@ module _ {F EF : Type 0} (r : CommRing F) (over : AlgebraOver F EF) (over_laws :
   records_roots (x ∷ xs) (c ∷ cs) m = (records_root x c m.0, records_roots xs cs m.1)
 
 -- what means an assertion is in its pool
-pub root_here : {F EF : Type 0} (r : CommRing F) (basis : Basis F EF) (p : ExtNodes F EF) (x : Root F EF) (c : Assertion F) → RootMeans r basis p x c → RootHere p x
+pub root_here : {F EF : Type 0} (r : CommRing F) (basis : Basis F EF) (p : ExtNodes F EF) (x : Root F EF) (c : Assertion F)
+    → RootMeans r basis p x c → RootHere p x
 root_here r basis p (root.Base i) (Base t) m = m.here
 root_here r basis p (root.Base i) (Extension t) m = absurd m
 root_here r basis p (root.Extension i) (Base t) m = absurd m

@@ -94,7 +94,8 @@ pub overflows_asserted : {C F : Type 0} (f : C → Assertion F) (cs : List C) (i
     → TermOverflows (asserted_term (f (get_or cs i d))) → SomeOverflows (map asserted_term (map f cs))
 overflows_asserted f [] i d lt h = absurd (omega arith)
 overflows_asserted f (c ∷ cs) zero d lt h = overflows_map asserted_term (map f (c ∷ cs)) 0 (f d) (omega arith) h
-overflows_asserted f (c ∷ cs) (suc i) d lt h = overflows_right (asserted_term (f c) ∷ []) (map asserted_term (map f cs)) (overflows_asserted f cs i d (omega arith) h)
+overflows_asserted f (c ∷ cs) (suc i) d lt h =
+    overflows_right (asserted_term (f c) ∷ []) (map asserted_term (map f cs)) (overflows_asserted f cs i d (omega arith) h)
 
 -- steps keep the terms before them
 greatest-after : {F S : Type 0} (w : Leaf → ℕ) (term : (ℕ → Term F) → S → Term F) (before : List (Term F)) (ss : List S)

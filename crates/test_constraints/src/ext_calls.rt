@@ -55,6 +55,15 @@ fn assigning(alloc: Global) -> Air {
     let mut product = z;
     product *= x;
     c.assert_zero_ext(product);
+    let mut sum = z;
+    sum += 3;
+    c.assert_zero_ext(sum);
+    let mut difference = z;
+    difference -= 3;
+    c.assert_zero_ext(difference);
+    let mut product = z;
+    product *= 3;
+    c.assert_zero_ext(product);
     c.into_air()
 }
 

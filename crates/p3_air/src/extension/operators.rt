@@ -64,6 +64,13 @@ impl<'a, F: Field, EF: ExtensionField<F>> AddAssign<Expr<'a, F>> for ExtExpr<'a,
     }
 }
 
+impl<'a, F: Field, EF: ExtensionField<F>> AddAssign<u64> for ExtExpr<'a, F, EF> {
+    fn add_assign(&mut self, n: u64) {
+        let sum = *self + n;
+        self.number = sum.number;
+    }
+}
+
 impl<'a, F: Field, EF: ExtensionField<F>> Sub<ExtExpr<'a, F, EF>> for ExtExpr<'a, F, EF> {
     type Output = ExtExpr<'a, F, EF>;
 
@@ -123,6 +130,13 @@ impl<'a, F: Field, EF: ExtensionField<F>> SubAssign<Expr<'a, F>> for ExtExpr<'a,
     }
 }
 
+impl<'a, F: Field, EF: ExtensionField<F>> SubAssign<u64> for ExtExpr<'a, F, EF> {
+    fn sub_assign(&mut self, n: u64) {
+        let difference = *self - n;
+        self.number = difference.number;
+    }
+}
+
 impl<'a, F: Field, EF: ExtensionField<F>> Mul<ExtExpr<'a, F, EF>> for ExtExpr<'a, F, EF> {
     type Output = ExtExpr<'a, F, EF>;
 
@@ -178,6 +192,13 @@ impl<'a, F: Field, EF: ExtensionField<F>> MulAssign<ExtExpr<'a, F, EF>> for ExtE
 impl<'a, F: Field, EF: ExtensionField<F>> MulAssign<Expr<'a, F>> for ExtExpr<'a, F, EF> {
     fn mul_assign(&mut self, x: Expr<'a, F>) {
         let product = *self * x;
+        self.number = product.number;
+    }
+}
+
+impl<'a, F: Field, EF: ExtensionField<F>> MulAssign<u64> for ExtExpr<'a, F, EF> {
+    fn mul_assign(&mut self, n: u64) {
+        let product = *self * n;
         self.number = product.number;
     }
 }

@@ -17,7 +17,7 @@ pub struct Column<'a, F: Field> {
 impl<'a, F: Field> Column<'a, F> {
     /// Its index in a row.
     pub fn index(self) -> usize
-        ensures { result ≡ self.index }
+        ensures { result ≡ self.entry.index }
     {
         self.index
     }
@@ -44,14 +44,14 @@ pub struct Columns<'a, F: Field> {
 impl<'a, F: Field> Columns<'a, F> {
     /// How many there are.
     pub fn len(self) -> usize
-        ensures { result ≡ self.count }
+        ensures { result ≡ self.entry.count }
     {
         self.count
     }
 
     /// Whether there is none.
     pub fn is_empty(self) -> bool
-        ensures { IsTrue result ↔ (self.count ≡ 0) }
+        ensures { IsTrue result ↔ (self.entry.count ≡ 0) }
     {
         self.count == 0
     }

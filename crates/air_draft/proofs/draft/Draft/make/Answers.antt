@@ -42,7 +42,8 @@ returns-in_err-roots-clause-refused g c =
     let long = AllZip-long _ made terms means in
     let count = terms-length step_term steps in
     let within : length made ≤ length steps = omega (arith, long, count) in
-    let refused = rw (c.deref-2.ensures.value, c.deref-3.ensures.value, c.deref-4.ensures.value) at (c.in_err-roots.ensures.refused terms (rw c.deref-2.ensures.value means)) in
+    let refused = rw (c.deref-2.ensures.value, c.deref-3.ensures.value, c.deref-4.ensures.value)
+    at (c.in_err-roots.ensures.refused terms (rw c.deref-2.ensures.value means)) in
     rw (p.1, p.2)
     (refuses_more {p = SomeOverflows (claim_terms one d)} {q = DraftOverflows one d} (length made) (length steps) e within
     (overflows_right terms (claim_terms one d)) refused)

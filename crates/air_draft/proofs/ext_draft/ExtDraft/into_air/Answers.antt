@@ -26,7 +26,11 @@ returns-in_err-air-clause-refused g c =
     let p = err_from_is_err_and c.from_residual-in_err-air.result c.from_residual-in_err-air.ensures.1 in
     let n = max (length d.base.steps.items) (length d.steps.items) in
     rw (p.1, p.2)
-    (inr (search rules, flat_refused n (ExtDraftOverflows g.F.Field.ONE basis d) c.in_err-air.field-0.0 basis made.pool made.roots.items c.in_err-air.ensures.refused))
+    (inr (
+      search rules,
+      flat_refused n (ExtDraftOverflows g.F.Field.ONE basis d) c.in_err-air.field-0.0
+          basis made.pool made.roots.items c.in_err-air.ensures.refused,
+    ))
 
 pub returns-in-Some-preprocessed-clause-records : goal.returns-in-Some-preprocessed-clause-records
 returns-in-Some-preprocessed-clause-records g c =

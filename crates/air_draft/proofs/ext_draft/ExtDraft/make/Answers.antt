@@ -20,7 +20,8 @@ make_ext_steps-requires-clause-base_in g c =
     let ring = g.F.Field.ring in
     let basis = g.EF.ExtensionField.basis in
     let p = on_base c.new-pool.result c.make_steps.new.pool in
-    let lent = base_lent_from g.met.EF.ExtensionField.laws c.new-pool.result c.base_mut.result.now c.make_steps.new.pool c.base_mut.ensures.value c.make_steps.ensures.grown in
+    let lent = base_lent_from g.met.EF.ExtensionField.laws c.new-pool.result c.base_mut.result.now c.make_steps.new.pool
+    c.base_mut.ensures.value c.make_steps.ensures.grown in
     let base = c.in_ok-base.base.items in
     let terms = step_terms c.deref.result.now in
     rw c.deref-2.ensures.value
@@ -33,7 +34,8 @@ make_any_roots-requires-clause-base_in g c =
     let basis = g.EF.ExtensionField.basis in
     let p = on_base c.new-pool.result c.make_steps.new.pool in
     let q = c.make_ext_steps.new.pool in
-    let lent = base_lent_from g.met.EF.ExtensionField.laws c.new-pool.result c.base_mut.result.now c.make_steps.new.pool c.base_mut.ensures.value c.make_steps.ensures.grown in
+    let lent = base_lent_from g.met.EF.ExtensionField.laws c.new-pool.result c.base_mut.result.now c.make_steps.new.pool
+    c.base_mut.ensures.value c.make_steps.ensures.grown in
     let base = c.in_ok-base.base.items in
     let terms = step_terms c.deref.result.now in
     let meant = base_meant ring basis p base terms (lent.pool c.new-pool.ensures.pool) c.in_ok-base.ensures.made in
@@ -47,7 +49,8 @@ make_any_roots-requires-clause-made_in g c =
     let basis = g.EF.ExtensionField.basis in
     let p = on_base c.new-pool.result c.make_steps.new.pool in
     let q = c.make_ext_steps.new.pool in
-    let lent = base_lent_from g.met.EF.ExtensionField.laws c.new-pool.result c.base_mut.result.now c.make_steps.new.pool c.base_mut.ensures.value c.make_steps.ensures.grown in
+    let lent = base_lent_from g.met.EF.ExtensionField.laws c.new-pool.result c.base_mut.result.now c.make_steps.new.pool
+    c.base_mut.ensures.value c.make_steps.ensures.grown in
     let base = c.in_ok-base.base.items in
     let terms = step_terms c.deref.result.now in
     let meant = base_meant ring basis p base terms (lent.pool c.new-pool.ensures.pool) c.in_ok-base.ensures.made in
@@ -80,7 +83,8 @@ returns-in_err-made-clause-refused g c =
     let n = length d.base.steps.items in
     let m = length d.steps.items in
     let q = on_base c.new-pool.result c.make_steps.new.pool in
-    let lent = base_lent_from g.met.EF.ExtensionField.laws c.new-pool.result c.base_mut.result.now c.make_steps.new.pool c.base_mut.ensures.value c.make_steps.ensures.grown in
+    let lent = base_lent_from g.met.EF.ExtensionField.laws c.new-pool.result c.base_mut.result.now c.make_steps.new.pool
+    c.base_mut.ensures.value c.make_steps.ensures.grown in
     let base = c.in_ok-base.base.items in
     let terms = base_terms_of d in
     let means = rw c.deref.ensures.value at c.in_ok-base.ensures.made in
@@ -107,7 +111,8 @@ returns-in_err-roots-clause-refused g c =
     let m = length d.steps.items in
     let first = on_base c.new-pool.result c.make_steps.new.pool in
     let q = c.make_ext_steps.new.pool in
-    let lent = base_lent_from g.met.EF.ExtensionField.laws c.new-pool.result c.base_mut.result.now c.make_steps.new.pool c.base_mut.ensures.value c.make_steps.ensures.grown in
+    let lent = base_lent_from g.met.EF.ExtensionField.laws c.new-pool.result c.base_mut.result.now c.make_steps.new.pool
+    c.base_mut.ensures.value c.make_steps.ensures.grown in
     let base = c.in_ok-base.base.items in
     let made = c.in_ok-made.made.items in
     let terms = base_terms_of d in
@@ -132,7 +137,8 @@ returns-in_err-roots-clause-refused g c =
 
 pub returns-clause-pool : goal.returns-clause-pool
 returns-clause-pool g c =
-    let lent = base_lent_from g.met.EF.ExtensionField.laws c.new-pool.result c.base_mut.result.now c.make_steps.new.pool c.base_mut.ensures.value c.make_steps.ensures.grown in
+    let lent = base_lent_from g.met.EF.ExtensionField.laws c.new-pool.result c.base_mut.result.now c.make_steps.new.pool
+    c.base_mut.ensures.value c.make_steps.ensures.grown in
     c.make_any_roots.ensures.grown.pool (c.make_ext_steps.ensures.grown.pool (lent.pool c.new-pool.ensures.pool))
 
 pub returns-clause-means : goal.returns-clause-means
@@ -142,7 +148,8 @@ returns-clause-means g c =
     let d = c.args.self.now in
     let first = on_base c.new-pool.result c.make_steps.new.pool in
     let q = c.make_ext_steps.new.pool in
-    let lent = base_lent_from g.met.EF.ExtensionField.laws c.new-pool.result c.base_mut.result.now c.make_steps.new.pool c.base_mut.ensures.value c.make_steps.ensures.grown in
+    let lent = base_lent_from g.met.EF.ExtensionField.laws c.new-pool.result c.base_mut.result.now c.make_steps.new.pool
+    c.base_mut.ensures.value c.make_steps.ensures.grown in
     let base = c.in_ok-base.base.items in
     let terms = base_terms_of d in
     let over = ext_terms_of basis d in
