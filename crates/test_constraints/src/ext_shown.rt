@@ -208,7 +208,8 @@ pub fn recorded_shown<F: PrimeField64, EF: ExtensionField<F>>(
     let texts = texts_of_both(alloc, &recorded.pool, &recorded.base, &recorded.ext)?;
     let mut lines = String::new(alloc);
     for (place, id) in recorded.base.iter().enumerate() {
-        push_line(&mut lines, &texts, place, Root::Base(*id), "")?;
+        let root: Root<F, EF> = Root::Base(*id);
+        push_line(&mut lines, &texts, place, root, "")?;
     }
     for (place, id) in recorded.ext.iter().enumerate() {
         push_line(&mut lines, &texts, place, Root::Extension(*id), "")?;
