@@ -103,12 +103,24 @@ fn traces_of(
     Ok(Traces { main, products })
 }
 
-/// A row, and the one after it around the end; of none, no cells.
+/// No cells.
+fn no_cells<'a, T: Copy>() -> ViewPair<'a, T> {
+    let none = RowMajorMatrixView::new_row(&[]);
+    ViewPair::new(none, none)
+}
+
+/// A row of four, and the one after it around the end; no cells of a row that isn't there.
 fn pair_of<'a, T: Copy>(trace: &'a RowMajorMatrix<T>, row: usize) -> ViewPair<'a, T> {
     let next = if row < 3 { row + 1 } else { 0 };
+    let (Some(top), Some(bottom)) = (trace.row_slice(row), trace.row_slice(next)) else {
+        return no_cells();
+    };
+    if top.len() != bottom.len() {
+        return no_cells();
+    }
     ViewPair::new(
-        RowMajorMatrixView::new_row(trace.row_slice(row).unwrap_or(&[])),
-        RowMajorMatrixView::new_row(trace.row_slice(next).unwrap_or(&[])),
+        RowMajorMatrixView::new_row(top),
+        RowMajorMatrixView::new_row(bottom),
     )
 }
 
@@ -120,12 +132,11 @@ fn failures_at<F: Field, EF: ExtensionField<F> + 'static>(
     beside: Permutation<'_, EF>,
     row: usize,
 ) -> Result<Vec<ConstraintFailure>, AirError> {
-    let none = RowMajorMatrixView::new_row(&[]);
     let mut builder = DebugConstraintBuilder::new_with_permutation(
         alloc,
         row,
         pair_of(main, row),
-        ViewPair::new(none, none),
+        no_cells(),
         &[],
         F::from_bool(row == 0),
         F::from_bool(row == 3),

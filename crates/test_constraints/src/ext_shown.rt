@@ -4,9 +4,8 @@ ghost use Rattle.p3_air.specs.ExtLeaves.{ext_reads};
 
 use air_symbolic::reached_nodes;
 use p3_air::{
-    AirError, BabyBear, BaseEntry, BaseLeaf, BinomialExtensionField as Ext, ExprId, ExprPool,
-    ExtEntry, ExtLeaf, ExtensionField, FlatExtAir, PrimeField64, Recorded, Root, SymLeaf,
-    SymbolicExpr,
+    AirError, BaseEntry, BaseLeaf, ExprId, ExprPool, ExtEntry, ExtLeaf, ExtensionField, FlatExtAir,
+    PrimeField64, Recorded, Root, SymLeaf, SymbolicExpr,
 };
 use std::alloc::{AllocError, Global};
 use std::io;
@@ -16,7 +15,7 @@ trait LeafText: SymLeaf {
     fn push_to(&self, text: &mut String, under: &[String]) -> Result<(), AllocError>;
 }
 
-impl LeafText for BaseLeaf<BabyBear> {
+impl<F: PrimeField64> LeafText for BaseLeaf<F> {
     fn push_to(&self, text: &mut String, _under: &[String]) -> Result<(), AllocError> {
         match self {
             BaseLeaf::Variable(v) => {
@@ -46,7 +45,7 @@ fn push_text(text: &mut String, texts: &[String], number: usize) -> Result<(), A
     }
 }
 
-impl LeafText for ExtLeaf<BabyBear, Ext> {
+impl<F: PrimeField64, EF: ExtensionField<F>> LeafText for ExtLeaf<F, EF> {
     fn push_to(&self, text: &mut String, under: &[String]) -> Result<(), AllocError> {
         match self {
             ExtLeaf::Base(id) => push_text(text, under, id.number()),
@@ -143,13 +142,13 @@ struct Texts {
 }
 
 /// The base roots, and what leaves over the extension hold of the base pool.
-fn base_roots(
+fn base_roots<F: PrimeField64, EF: ExtensionField<F>>(
     alloc: Global,
-    pool: &ExprPool<ExtLeaf<BabyBear, Ext>>,
-    base: &[ExprId<BaseLeaf<BabyBear>>],
-    ext: &[ExprId<ExtLeaf<BabyBear, Ext>>],
-) -> Result<Vec<ExprId<BaseLeaf<BabyBear>>>, AirError>
-    requires { FitsBase (ext_reads Ext.ExtensionField.basis) pool.now }
+    pool: &ExprPool<ExtLeaf<F, EF>>,
+    base: &[ExprId<BaseLeaf<F>>],
+    ext: &[ExprId<ExtLeaf<F, EF>>],
+) -> Result<Vec<ExprId<BaseLeaf<F>>>, AirError>
+    requires { FitsBase (ext_reads EF.basis) pool.now }
 {
     if !ext.iter().all(|root| pool.contains(*root)) {
         return Err(AirError::EmptyList);
@@ -171,13 +170,13 @@ fn base_roots(
 }
 
 /// The texts of what roots of both kinds reach.
-fn texts_of_both(
+fn texts_of_both<F: PrimeField64, EF: ExtensionField<F>>(
     alloc: Global,
-    pool: &ExprPool<ExtLeaf<BabyBear, Ext>>,
-    base: &[ExprId<BaseLeaf<BabyBear>>],
-    ext: &[ExprId<ExtLeaf<BabyBear, Ext>>],
+    pool: &ExprPool<ExtLeaf<F, EF>>,
+    base: &[ExprId<BaseLeaf<F>>],
+    ext: &[ExprId<ExtLeaf<F, EF>>],
 ) -> Result<Texts, AirError>
-    requires { FitsBase (ext_reads Ext.ExtensionField.basis) pool.now }
+    requires { FitsBase (ext_reads EF.basis) pool.now }
 {
     let under = base_roots(alloc, pool, base, ext)?;
     let base = texts_of(alloc, pool.base(), &under, &[])?;
@@ -186,7 +185,10 @@ fn texts_of_both(
 }
 
 /// The texts of what an AIR's roots reach.
-fn texts_of_air(alloc: Global, air: &FlatExtAir<BabyBear, Ext>) -> Result<Texts, AirError> {
+fn texts_of_air<F: PrimeField64, EF: ExtensionField<F>>(
+    alloc: Global,
+    air: &FlatExtAir<F, EF>,
+) -> Result<Texts, AirError> {
     let mut base = Vec::new(alloc);
     let mut ext = Vec::new(alloc);
     for root in &air.roots {
@@ -199,14 +201,15 @@ fn texts_of_air(alloc: Global, air: &FlatExtAir<BabyBear, Ext>) -> Result<Texts,
 }
 
 /// The lines of what was recorded: the base constraints, then those over the extension.
-pub fn recorded_shown(
+pub fn recorded_shown<F: PrimeField64, EF: ExtensionField<F>>(
     alloc: Global,
-    recorded: &Recorded<BabyBear, Ext>,
+    recorded: &Recorded<F, EF>,
 ) -> Result<String, AirError> {
     let texts = texts_of_both(alloc, &recorded.pool, &recorded.base, &recorded.ext)?;
     let mut lines = String::new(alloc);
     for (place, id) in recorded.base.iter().enumerate() {
-        push_line(&mut lines, &texts, place, Root::Base(*id), "")?;
+        let root: Root<F, EF> = Root::Base(*id);
+        push_line(&mut lines, &texts, place, root, "")?;
     }
     for (place, id) in recorded.ext.iter().enumerate() {
         push_line(&mut lines, &texts, place, Root::Extension(*id), "")?;
@@ -215,11 +218,11 @@ pub fn recorded_shown(
 }
 
 /// Adds a line: the constraint's place, its kind, its label and its text.
-fn push_line(
+fn push_line<F: PrimeField64, EF: ExtensionField<F>>(
     lines: &mut String,
     texts: &Texts,
     place: usize,
-    root: Root<BabyBear, Ext>,
+    root: Root<F, EF>,
     label: &str,
 ) -> Result<(), AllocError> {
     let (kind, texts, number) = match root {
@@ -236,7 +239,10 @@ fn push_line(
 }
 
 /// The lines of an AIR's constraints, in order.
-pub fn ext_shown(alloc: Global, air: &FlatExtAir<BabyBear, Ext>) -> Result<String, AirError> {
+pub fn ext_shown<F: PrimeField64, EF: ExtensionField<F>>(
+    alloc: Global,
+    air: &FlatExtAir<F, EF>,
+) -> Result<String, AirError> {
     let texts = texts_of_air(alloc, air)?;
     let mut lines = String::new(alloc);
     for (place, root) in air.roots.iter().enumerate() {
@@ -246,10 +252,10 @@ pub fn ext_shown(alloc: Global, air: &FlatExtAir<BabyBear, Ext>) -> Result<Strin
 }
 
 /// Prints a heading, and below it the constraints, or why there are none.
-pub fn print_ext_shown(
+pub fn print_ext_shown<F: PrimeField64, EF: ExtensionField<F>>(
     rt: &HostRuntime,
     heading: &str,
-    air: Result<FlatExtAir<BabyBear, Ext>, AirError>,
+    air: Result<FlatExtAir<F, EF>, AirError>,
 ) -> io::Result<()> {
     println!(rt; "== {heading}")?;
     let air = match air {
