@@ -5,7 +5,6 @@ use crate::plan::{Leaf, Plan, Step};
 use p3_air::symbolic::BaseEntry;
 use p3_air::{Air, AirBuilder, BaseAir, BoundaryPublic, NamedAirBuilder, WindowAccess};
 use p3_field::Dup;
-use p3_matrix::Matrix;
 use p3_matrix::dense::RowMajorMatrix;
 use std::borrow::Cow;
 
@@ -81,7 +80,8 @@ impl<F: AuditedField, const LABELLED: bool> BaseAir<F> for FlatAir<F, LABELLED> 
         self.0.preprocessed.clone()
     }
     fn preprocessed_width(&self) -> usize {
-        self.0.preprocessed.as_ref().map_or(0, Matrix::width)
+        let preprocessed = self.0.preprocessed.as_ref();
+        preprocessed.map_or(0, |matrix| matrix.width)
     }
     fn num_periodic_columns(&self) -> usize {
         self.0.periodic.len()
