@@ -26,7 +26,7 @@
 //!
 //! | to | call | its promise |
 //! |---|---|---|
-//! | write an AIR in code alone | [`Constraints`] | the AIR records what was written down |
+//! | write an AIR in code alone | [`Constraints`] | the AIR records the draft that the calls write |
 //! | the same over an extension | [`ExtConstraints`] | the same, of constraints of both kinds |
 //! | write one that declares its list | [`author`], [`utils`], [`BaseAir`] | `eval` asserts just the declared list on each builder |
 //! | make a trace | [`trace_of_rows`], [`TraceRows`], [`with_bits`], [`word_with_bits`] | the rows and numbers that were given |
