@@ -151,6 +151,8 @@ pub use Rattle.air_gadgets.specs.Numbers
 pub mod Author
 pub mod Claims
 pub mod Theorem
+pub mod DeclaredShape
+pub use Rattle.air_audit.specs.declared.declared_shape.ShapeError
 pub mod Audits
 pub mod RecordedAirs
 pub use Rattle.air_builder.specs.Builders

@@ -7,6 +7,7 @@
 pub mod audit;
 pub mod author;
 mod cells;
+pub mod declared_shape;
 mod flat;
 pub mod laws;
 mod permutation_rows;
@@ -113,6 +114,8 @@ pub use audit::audit_air;
 pub use audit::audit_air_with_cap;
 pub use cells::with_bits;
 pub use cells::word_with_bits;
+pub use declared_shape::ShapeError;
+pub use declared_shape::has_declared_shape;
 pub use flat::extension::air::FlatExtAir;
 pub use flat::flat_air::FlatAir;
 pub use flat::resolving::resolve;

@@ -151,6 +151,8 @@ pub use Rattle.air_gadgets.specs.Numbers
 pub use Rattle.air_audit.specs.Author
 pub use Rattle.air_audit.specs.Claims
 pub use Rattle.air_audit.specs.Theorem
+pub use Rattle.air_audit.specs.DeclaredShape
+pub use Rattle.air_audit.specs.declared.declared_shape.ShapeError
 pub use Rattle.air_audit.specs.Audits
 pub use Rattle.air_audit.specs.RecordedAirs
 pub use Rattle.air_builder.specs.Builders

@@ -1,5 +1,4 @@
 //! An AIR without a declared list: its constraints are recorded, and the audit is about the recorded terms.
-#![tactic(auto)]
 
 use p3_air::author::{FirstRow, IsOne, LastRow, Transition, When, current, next, public};
 use p3_air::{
@@ -44,7 +43,8 @@ fn audit_of(alloc: Global, last: u32) -> Result<Audit<BabyBear>, AirError> {
     audit_air(alloc, &air, &trace, &[BabyBear::new(8)], 0)
 }
 
-fn main(rt: HostRuntime) -> io::Result<()> {
+/// Audits the rows 1, 2, 4, 8 and the rows 1, 2, 4, 9.
+pub fn print(rt: &HostRuntime) -> io::Result<()> {
     for last in [8, 9] {
         match audit_of(rt.alloc(), last) {
             Ok(audit) => {

@@ -1,5 +1,5 @@
 //! A counter that another AIR can include: a bit, and in the next column the number of bits above that were one.
-ghost use Rattle.example_two_counters.specs.Counters.{one_counter};
+ghost use Rattle.example_declared_forms.specs.Counters.{one_counter};
 
 use p3_air::author::{
     Boolean, Condition, Constraint, FirstRow, MovableConstraints, PlainAir, Transition, When, Zero,

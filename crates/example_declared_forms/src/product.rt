@@ -1,11 +1,36 @@
-//! Running products, checked one row at a time: a column and its permutation expose the same value.
-#![tactic(auto)]
+//! A running product over the extension: the product of all rows is the exposed value.
+ghost use Rattle.example_declared_forms.specs.Product.{running_product};
 
-mod product;
-
+use p3_air::author::*;
 use p3_air::{BinomialExtensionField as Extension, *};
-use product::RunningProduct;
 use std::alloc::Global;
+use std::io;
+
+/// Column 0 of the permutation trace is one on row 0. Each row multiplies it by the challenge plus main column 0.
+pub struct RunningProduct;
+
+impl<F: Field> PlainAir<F> for RunningProduct {
+    ghost plain = { λ _. (running_product F.ring, 1, 0) };
+
+    fn width_and_public_values(&self) -> (usize, usize) {
+        (1, 0)
+    }
+}
+
+impl<AB: PermutationAirBuilder> PlainConstraints<AB> for RunningProduct
+where
+    AB::ExtRing: FromVar<AB::F, AB::RandomVar> + FromVar<AB::F, AB::PermutationVar>,
+{
+    fn eval(&self, builder: &mut AB) -> Result<(), AirError> {
+        let more = permutation_current(0) * (challenge(0) + current(0));
+        let constraints = (
+            When(FirstRow, ExtIsOne(permutation_current(0))),
+            When(Transition, permutation_next(0).ext_equals(more)),
+            When(LastRow, permutation_value(0).ext_equals(more)),
+        );
+        assert_all(builder, &constraints)
+    }
+}
 
 /// One line for each row: the constraints that fail on it.
 fn report_on(
@@ -38,7 +63,8 @@ fn report_of(alloc: Global, numbers: [u64; 4]) -> Result<String, AirError> {
     report_on(alloc, &RunningProduct, &column, beside)
 }
 
-fn main(rt: HostRuntime) -> std::io::Result<()> {
+/// Checks a permutation of the column whose product is exposed, and another column.
+pub fn print(rt: &HostRuntime) -> io::Result<()> {
     for numbers in [[7, 2, 5, 3], [7, 2, 5, 5]] {
         match report_of(rt.alloc(), numbers) {
             Ok(text) => print!(rt; "{text}")?,
