@@ -5,7 +5,7 @@ use Rattle.std.specs.Option.{option_map}
 use Rattle.std.specs.List.{AllZip, filter, enumerate_from}
 use Rattle.air_field.specs.Ring.{CommRing, self_algebra}
 use Rattle.air_field.specs.Extension.{Basis}
-use Rattle.air_field.specs.Grid.{Grid}
+use Rattle.air_field.specs.Grid.{Grid, table_grid}
 use Rattle.air_field.specs.Term.{Leaf, preprocessed, main, periodic, public, first_row, last_row, transition, permutation, challenge, permutation_value, Term, leaf_term, ext_const_term}
 use Rattle.air_field.specs.Same.{Simplifies}
 use Rattle.air_field.specs.Polynomial.{polynomial, HasDegreeAtMost}
@@ -34,7 +34,6 @@ use Rattle.air_recording.specs.Recorded.{RecordsTerm}
 use Rattle.air_recording.specs.Recordings.{Recording}
 use Rattle.air_report.specs.Cells.{cell_label}
 pub use Rattle.air_report.specs.Instances.{Instance, instance, row_count}
-use Rattle.air_report.specs.Instances.{table_grid}
 use Rattle.air_report.specs.Report.{all_places, assertion_value}
 use Rattle.air_report.specs.declared.checks.report.ConstraintReport.{ConstraintReport}
 use Rattle.air_audit.specs.declared.audit.Audit.{Audit}

@@ -1,5 +1,5 @@
 //! A row of an AIR with permutation data, checked by itself.
-ghost use Rattle.std.specs.Prelude.{◌≡◌, ◌+◌, ◌%◌, ◌<◌, ◌⊎◌, Some, slice_get, length, IfOk, IfErr};
+ghost use Rattle.std.specs.Prelude.{◌≡◌, ◌<◌, ◌⊎◌, length, IfOk, IfErr};
 ghost use Rattle.air_core.specs.declared.errors.AirError.{AirError};
 ghost use Rattle.air_report.specs.Debug.{is_zero_at};
 ghost use Rattle.air_report.specs.RowRefusals.{RefusedAtRow};
@@ -7,6 +7,7 @@ ghost use Rattle.air_audit.specs.PermutationRows.{permutation_at, row_with_permu
 
 use air_author::PlainConstraints;
 use air_builder::AirError;
+use air_core::Selectors;
 use air_field::{ExtensionField, Field, RowMajorMatrix, RowMajorMatrixView, ViewPair};
 use air_report::{ConstraintFailure, DebugConstraintBuilder};
 use std::alloc::Global;
@@ -32,33 +33,6 @@ impl<'a, EF> Permutation<'a, EF> {
             values,
         }
     }
-}
-
-/// The values of a row.
-fn row_of<'a, T: Copy>(trace: &'a RowMajorMatrix<T>, row: usize) -> &'a [T]
-    requires { row < length trace.now.rows }
-    ensures row { slice_get trace.now.rows row ≡ Some result.now }
-    ensures width { length result.now ≡ trace.now.width }
-{
-    match trace.row_slice(row) {
-        Some(values) => values,
-        None => unreachable!(),
-    }
-}
-
-/// A row and the next one; after the last row comes the first.
-fn row_pair<'a, T: Copy>(trace: &'a RowMajorMatrix<T>, row: usize) -> ViewPair<'a, T>
-    requires { row < length trace.now.rows }
-    ensures top { slice_get trace.now.rows row ≡ Some result.top.values.now }
-    ensures bottom { slice_get trace.now.rows ((row + 1) % length trace.now.rows) ≡ Some
-        result.bottom.values.now }
-{
-    let height = trace.height();
-    let next = if row + 1 == height { 0 } else { row + 1 };
-    ViewPair::new(
-        RowMajorMatrixView::new_row(row_of(trace, row)),
-        RowMajorMatrixView::new_row(row_of(trace, next)),
-    )
 }
 
 /// The constraints of a plain AIR with permutation data that fail at a row of its traces. The next row of the last row
@@ -95,18 +69,17 @@ pub fn check_row_with_permutation<
         (is_zero_at F.ring EF.over F.eq EF.eq) r 0 e (A.plain air.now).0) }
 {
     let none = RowMajorMatrixView::new_row(&[]);
-    let height = main.height();
-    let is_last = row + 1 == height;
+    let selectors = Selectors::at(row, main.height());
     let mut builder = DebugConstraintBuilder::new_with_permutation(
         alloc,
         row,
-        row_pair(main, row),
+        main.row_pair(row),
         ViewPair::new(none, none),
         public_values,
-        F::from_bool(row == 0),
-        F::from_bool(is_last),
-        F::from_bool(!is_last),
-        row_pair(permutation.trace, row),
+        selectors.is_first_row,
+        selectors.is_last_row,
+        selectors.is_transition,
+        permutation.trace.row_pair(row),
         permutation.challenges,
         permutation.values,
         Vec::new(alloc),

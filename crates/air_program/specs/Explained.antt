@@ -5,7 +5,7 @@ use Rattle.std.specs.Option.{option_to_list}
 use Rattle.std.specs.List.{AllZip, flat_map}
 use Rattle.serde_json.specs.Data.{Data}
 use Rattle.air_field.specs.Assignment.{Trace, row_assignment}
-use Rattle.air_field.specs.Grid.{Grid}
+use Rattle.air_field.specs.Grid.{Grid, table_grid}
 use Rattle.air_field.specs.Modular.{Modular, modular_ring}
 use Rattle.air_field.specs.Term.{Leaf}
 use Rattle.air_core.specs.declared.boundary.BoundaryPublic.{BoundaryPublic}
@@ -15,7 +15,6 @@ use Rattle.air_symbolic.specs.Reach.{Reached}
 use Rattle.air_print.specs.Names.{AreNames}
 use Rattle.air_print.specs.Cells.{cell_line}
 use Rattle.air_print.specs.Explained.{Explains, reached_definitions}
-use Rattle.air_report.specs.Instances.{table_grid}
 use Rattle.air_object.specs.declared.input.FlatInput.{FlatInput}
 use Rattle.air_program.specs.Answer.{AuditFinds}
 use Rattle.air_program.specs.ByField.{AnswersBytes}

@@ -4,7 +4,7 @@ use Rattle.std.specs.Prelude.{◌==◌, ◌⊎◌, if◌then◌else◌}
 use Rattle.std.proofs.Math.Nat.{pow-suc}
 use Rattle.std.proofs.lemmas.List.{length-map}
 use Rattle.std.proofs.lemmas.Option.{get_or_from_slice_get}
-use Rattle.air_field.specs.Grid.{Grid}
+use Rattle.air_field.specs.Grid.{Grid, table_grid}
 use Rattle.air_field.specs.Ring.{CommRing, AlgebraOver, self_algebra}
 use Rattle.air_field.specs.Assignment.{selector, row_at, row_or_none, trace_shape, IsMissing}
 use Rattle.air_field.specs.OneRow.{no_permutation, one_row_shape}
@@ -12,23 +12,21 @@ use Rattle.air_field.specs.declared.matrices.view.ViewPair.{ViewPair}
 use Rattle.air_builder.specs.Assertion.{Assertion}
 use Rattle.air_builder.specs.Refused.{Refused}
 use Rattle.air_core.specs.Periodic.{column_at, IsFirstEmpty, RefusesPeriodicRow}
+use Rattle.air_core.specs.Selectors.{row_selectors}
+use Rattle.air_core.specs.declared.selectors.Selectors.{Selectors}
 use Rattle.air_core.specs.declared.errors.AirError.{AirError}
 use Rattle.air_core.specs.declared.errors.AirError.TheVariants.{Memory, EmptyPeriodicColumn}
 use Rattle.air_report.specs.Checks.{CheckedRow, Fits, RowRefuses}
-use Rattle.air_report.specs.Instances.{Instance, instance_trace, table_grid}
+use Rattle.air_report.specs.Instances.{Instance, instance_trace}
 use Rattle.air_report.specs.Debug.{RowData, row_data, is_zero_at, nonzero_by, GrewAtRow}
-use Rattle.air_report.specs.DebugRow.{debug_row, row_selectors, IsRow, StandsAt}
+use Rattle.air_report.specs.DebugRow.{debug_row, IsRow, StandsAt}
 use Rattle.air_report.specs.RowRefusals.{RefusedAtRow, IsFull}
 use Rattle.air_report.specs.laws.Debug.{refused_anyway}
 use Rattle.air_report.specs.Shapes.{FitsHeight, table_height}
 use Rattle.air_report.specs.declared.debug.builder.DebugConstraintBuilder.{DebugConstraintBuilder}
 use Rattle.air_report.specs.declared.debug.failure.ConstraintFailure.{ConstraintFailure}
 use Rattle.air_report.specs.declared.debug.row.Row.{Row}
-use Rattle.air_report.specs.declared.debug.row.Selectors.{Selectors}
 use Rattle.air_report.proofs.OwnExtension.{own_nonzero}
-
-not_selector : {F : Type 0} (r : CommRing F) (b : Bool) → selector r (not b) ≡ (if b then r.zero else r.one)
-not_selector r b = elim b as (λ c. selector r (not c) ≡ (if c then r.zero else r.one)) [ true ↦ refl | false ↦ refl ]
 
 -- the periodic values, if each column has one
 periodic_is : {F A : Type 0} (z : F) (i : ℕ) (ps : List F) (cs : List (Vec F A)) → map Some ps ≡ map (column_at i) cs → ps ≡ map (λ column. slice_index_or column (i % length column) z) (map (λ c. c.items) cs)
@@ -86,8 +84,7 @@ module _ {F : Type 0} (g : Instance F) {i : ℕ} {pair table : ViewPair F} {sele
         after ∙ (ap (λ x. row_or_none (slice_get (table_grid x).rows ((i + 1) % length (table_grid x).rows))) same
         ∙ around_table g.air.preprocessed (length g.main.rows) i fits.table_fits) in
         let q = periodic_is r.zero i periodic.items g.air.periodic p in
-        let k = not_selector r (i + 1 == length g.main.rows) in
-        holds ∙ rw (c, n, u, v, q, selectors, k)
+        holds ∙ rw (c, n, u, v, q, selectors)
 
     -- the builder has the shape of the trace
     pub shape-given : length pair.top.values.now ≡ g.main.width → length table.top.values.now ≡ (table_grid t).width

@@ -9,7 +9,7 @@ use Rattle.std.proofs.lemmas.Option.{slice_get-map, slice_get_cases, slice_get_w
 use Rattle.std.proofs.lemmas.Simd.{map-map}
 use Rattle.air_field.specs.Ring.{CommRing, self_algebra}
 use Rattle.air_field.specs.Extension.{Basis}
-use Rattle.air_field.specs.Grid.{Grid}
+use Rattle.air_field.specs.Grid.{Grid, table_grid}
 use Rattle.air_field.specs.Term.{Leaf, preprocessed, main, periodic, public, first_row, last_row, transition, permutation, challenge, permutation_value, Term}
 use Rattle.air_field.specs.Degree.{cached_weight}
 use Rattle.air_field.specs.Assignment.{IsMissing, row_or_none, row_assignment, trace_shape}
@@ -36,7 +36,7 @@ use Rattle.air_recording.specs.Recording.{OverflowsDegree}
 use Rattle.air_recording.specs.Recordings.{Recording}
 use Rattle.air_report.specs.Cells.{differing_cells, label_text, bytes_of_text, IsCellFault}
 use Rattle.air_report.specs.Checks.{Fits, RowRefuses}
-use Rattle.air_report.specs.Instances.{instance_trace, table_grid}
+use Rattle.air_report.specs.Instances.{instance_trace}
 use Rattle.air_report.specs.Report.{all_places, assertion_value, place, report_of}
 use Rattle.air_report.specs.RowRefusals.{IsFull}
 use Rattle.air_report.specs.Shapes.{FitsHeight, IsShapeFault, PeriodsFitBelow, table_height}

@@ -3,7 +3,7 @@ ghost use Rattle.std.specs.Prelude.{◌≡◌, ◌+◌, ◌<◌, ◌≤◌, ◌^
 ghost use Rattle.air_report.specs.Cells.{differs, differing_cells, take_within_cap, ListsCells, IsListedPast, cell_label, label_text, CellsFit, IsCellFault, AgreeBelow, IsFirstDiffering};
 ghost use Rattle.air_report.specs.Report.{failure_place};
 
-use crate::checks::check::{is_reached, main_row};
+use crate::checks::check::is_reached;
 use crate::debug::failure::ConstraintFailure;
 use air_builder::{AirError, BoundaryPublic};
 use air_core::boundary::validate;
@@ -34,7 +34,7 @@ fn differs<F: Field>(cell: &BoundaryPublic, main: &RowMajorMatrix<F>, public_val
     requires value { cell.now.public_value < length public_values.now }
     ensures { result ≡ differs F.ring F.eq main.now public_values.now cell.now }
 {
-    let row = main_row(main, cell.row(main.height()));
+    let row = main.row(cell.row(main.height()));
     !(row[cell.column] == public_values[cell.public_value])
 }
 

@@ -4,8 +4,9 @@ ghost use Rattle.air_report.specs.DebugRow.{IsAtRow, StandsAt, counted_from, fai
 ghost use Rattle.air_report.specs.FailureTexts.{failures_text};
 
 use crate::debug::failure::{ConstraintFailure, failures_text};
-use crate::debug::row::{Row, Selectors};
+use crate::debug::row::Row;
 use air_builder::{AirError, RowWindow};
+use air_core::Selectors;
 use air_field::{ExtFieldRing, ExtensionField, Field, FieldRing, RowMajorMatrixView, ViewPair};
 use std::alloc::Global;
 

@@ -2,8 +2,8 @@ use Rattle.std.proofs.Common.{◌≡◌, map, Some, OnOk, refl, ap, subst, ◌�
 use Rattle.std.proofs.lemmas.Result.{err_from_is_err_and, on_ok_weaker, IfErr-weaker}
 use Rattle.air_field.specs.Assignment.{IsMissing}
 use Rattle.air_core.specs.Periodic.{column_at, RefusesPeriodicRow}
+use Rattle.air_core.specs.Selectors.{row_selectors}
 use Rattle.air_builder.specs.Refusals.{NoneMissing}
-use Rattle.air_report.specs.DebugRow.{row_selectors}
 use Rattle.air_report.specs.Instances.{instance}
 use Rattle.air_report.proofs.RowsAt.{row_at-given, checked_row, shape-given, row_refusal, periodic_refusal}
 use Rattle.air_report.proofs.checks.check.check_row.Goals as goal
@@ -15,7 +15,7 @@ returns-clause-checked g c =
     let periodic : map Some c.fill_periodic_row.new.values.items ≡ map (column_at c.args.row) columns =
     rw (← c.periodic_columns.ensures) c.in_ok-fill_periodic_row.ensures.filled in
     let same = row_at-given all c.new.ensures c.move_to.ensures c.preprocessed_trace.ensures periodic g.F.Field.ring c.requires.fits
-    c.row_pair.ensures.top c.row_pair.ensures.bottom c.table_pair.ensures.top c.table_pair.ensures.bottom (c.selectors_at.ensures ∙ ap (row_selectors g.F.Field.ring c.args.row) c.height-height.ensures) in
+    c.row_pair.ensures.top c.row_pair.ensures.bottom c.table_pair.ensures.top c.table_pair.ensures.bottom (c.at.ensures ∙ ap (row_selectors g.F.Field.ring c.args.row) c.height.ensures) in
     on_ok_weaker c.eval.result (λ grew. checked_row all c.new.ensures c.move_to.ensures g.met.F.SelfExtension.over_itself same refl grew) c.eval.ensures.asserted.ok
 
 pub returns-clause-there : goal.returns-clause-there
