@@ -11,9 +11,9 @@ use Rattle.air_report.specs.Checks.{Fits, HasEntries, IsCellPastCount, IsReport,
 use Rattle.air_report.specs.Instances.{instance_trace}
 use Rattle.air_report.specs.Report.{constraints_counted, failure_place, report_of}
 use Rattle.air_report.specs.declared.checks.report.ConstraintReport.{ConstraintReport}
-use Rattle.air_audit.specs.Theorem.{Instance, row_count, RowsHaveEntries, FixedColumnsFit, FitsDeclaration, constraints_per_row, failure_places, nonzero_places, violations, violated_cells, LabelsFrom, RecordingRefuses, IsRecordable, ReportRefuses, AuditRefuses}
+use Rattle.air_audit.specs.Theorem.{Instance, row_count, RowsHaveEntries, FixedColumnsFit, FitsDeclaration, constraints_per_row, failure_places, nonzero_places, violated_cells, violated_places, LabelsFrom, RecordingRefuses, IsRecordable, ReportRefuses, AuditRefuses}
 use Rattle.air_audit.specs.Audits.{AuditRefusesUnder}
-use Rattle.air_audit.specs.laws.Theorem.{cells_refuse, fixed_columns_fit, fixed_columns_refuse, labels_are, nonzero_places_are, proper_below, rows_refuse, shape_is, violations_are}
+use Rattle.air_audit.specs.laws.Theorem.{cells_refuse, fixed_columns_fit, fixed_columns_refuse, labels_are, nonzero_places_are, proper_below, rows_refuse, shape_is, violated_cells_are}
 
 -- a fact for the answer, from another
 pub if_ok-map : {A E : Type 0} {P Q : A → Type 0} (r : Result A E) → IfOk r P → ((a : A) → P a → Q a) → IfOk r Q
@@ -63,17 +63,17 @@ module _ {F : Type 0} (r : CommRing F) (eq : F → F → Bool) (x : Instance F) 
       rows_for_cells = p.cells.rows_there;
     }
 
-    pub lists : failure_places report ≡ nonzero_places r eq x ++ violated_cells r eq x
+    pub lists : failure_places report ≡ nonzero_places r eq x ++ violated_places r eq x
     lists = ap (map failure_place) p.lists.failures
         ∙ (map-append failure_place p.of_rows p.lists.more
         ∙ ap₂ (λ xs ys. xs ++ ys) of_rows
-        (p.lists.places ∙ (ap (λ n. map (cell_place (row_count x) (constraints_counted x.air.constraints n)) _) at ∙ ap (map (cell_place (row_count x) (constraints_per_row x))) (sym (violations_are r x eq)))))
+        (p.lists.places ∙ (ap (λ n. map (cell_place (row_count x) (constraints_counted x.air.constraints n)) _) at ∙ ap (map (cell_place (row_count x) (constraints_per_row x))) (sym (violated_cells_are r x eq)))))
 
-    pub labels : LabelsFrom (length (nonzero_places r eq x)) (violations r eq x) report
+    pub labels : LabelsFrom (length (nonzero_places r eq x)) (violated_cells r eq x) report
     labels = labels_are (drop (length (nonzero_places r eq x)) report.failures.items)
         ∙ (ap (λ fs. map label_text (drop (length (nonzero_places r eq x)) fs)) p.lists.failures
         ∙ (ap (map label_text) (dropped p.of_rows p.lists.more (length (nonzero_places r eq x)) counted)
-        ∙ (p.lists.labels ∙ ap (map (λ c. Some (cell_label c.1))) (sym (violations_are r x eq)))))
+        ∙ (p.lists.labels ∙ ap (map (λ c. Some (cell_label c.1))) (sym (violated_cells_are r x eq)))))
       where
         counted : length (nonzero_places r eq x) ≡ length p.of_rows
         counted = ap length (sym of_rows) ∙ length-map p.of_rows failure_place
@@ -122,7 +122,7 @@ module _ {F : Type 0} (r : CommRing F) (eq : F → F → Bool) (x : Instance F) 
         (subst (λ k. ReportRefuses r eq x k) (sym is) (
           past.past.at,
           past.past.cell,
-          ap (λ l. slice_get l past.past.at) (violations_are r x eq) ∙ past.past.is_listed,
+          ap (λ l. slice_get l past.past.at) (violated_cells_are r x eq) ∙ past.past.is_listed,
           subst (λ n. 2 ^ 64 ≤ constraints_counted x.air.constraints n + past.past.cell.0) (all_shown past.ran) past.past.past,
         ))
         answers shapes past

@@ -188,12 +188,12 @@ abbrev pub constraints_per_row : {F : Type 0} → Instance F → ℕ
 constraints_per_row x = if row_count x == 0 then 0 else length x.air.constraints
 
 -- the boundary values whose cells don't hold their public values, each with its number in the list of boundary values
-abbrev pub violations : {F : Type 0} → CommRing F → (F → F → Bool) → Instance F → List (ℕ × BoundaryPublic)
-violations r eq x = filter (λ c. not (eq (entry_at r.zero x.main (row_of c.1.end (row_count x)) c.1.column) (slice_index_or x.public c.1.public_value r.zero))) (enumerate_from 0 x.air.cells)
+abbrev pub violated_cells : {F : Type 0} → CommRing F → (F → F → Bool) → Instance F → List (ℕ × BoundaryPublic)
+violated_cells r eq x = filter (λ c. not (eq (entry_at r.zero x.main (row_of c.1.end (row_count x)) c.1.column) (slice_index_or x.public c.1.public_value r.zero))) (enumerate_from 0 x.air.cells)
 
 -- the places where these are listed: the row of the cell, and the boundary value's number after all constraints
-abbrev pub violated_cells : {F : Type 0} → CommRing F → (F → F → Bool) → Instance F → List (ℕ × ℕ)
-violated_cells r eq x = map (λ c. (row_of c.1.end (row_count x), constraints_per_row x + c.0)) (violations r eq x)
+abbrev pub violated_places : {F : Type 0} → CommRing F → (F → F → Bool) → Instance F → List (ℕ × ℕ)
+violated_places r eq x = map (λ c. (row_of c.1.end (row_count x), constraints_per_row x + c.0)) (violated_cells r eq x)
 
 -- the rows and places of the failures that a report lists, in order
 abbrev pub failure_places : ConstraintReport → List (ℕ × ℕ)
@@ -315,7 +315,7 @@ CellsRefuse x _ = ⊥
 -- The report's error: the place of a violated boundary value passes `usize`.
 abbrev pub ReportRefuses : {F : Type 0} → CommRing F → (F → F → Bool) → Instance F → AirError → Type 0
 ReportRefuses r eq x CountOverflow =
-    (k : ℕ) × (c : ℕ × BoundaryPublic) × (slice_get (violations r eq x) k ≡ Some c) × (2 ^ 64 ≤ constraints_per_row x + c.0)
+    (k : ℕ) × (c : ℕ × BoundaryPublic) × (slice_get (violated_cells r eq x) k ≡ Some c) × (2 ^ 64 ≤ constraints_per_row x + c.0)
 ReportRefuses r eq x _ = ⊥
 
 -- some terms that record the declared constraints have a degree past `usize`, by the domain's weights

@@ -1,7 +1,7 @@
 //! The audit: an AIR is recorded and checked in one call, so that the recorded constraints are the tested ones.
 ghost use Rattle.std.specs.Prelude.{◌≡◌, ◌≤◌, ◌<◌, ◌^◌, ◌++◌, length, IfOk, IfErr, OnOk};
 ghost use Rattle.air_field.specs.Degree.{greatest_degree};
-ghost use Rattle.air_audit.specs.Theorem.{instance, row_count, NamesOwnEntries, FitsDeclaration, RecordsEach, MeansEach, terms_in, failure_places, nonzero_places, violations, violated_cells, constraints_per_row, LabelsFrom, domain, degree_in, BoundsDegrees, BoundsPolynomials, IsLeast, AuditRefuses};
+ghost use Rattle.air_audit.specs.Theorem.{instance, row_count, NamesOwnEntries, FitsDeclaration, RecordsEach, MeansEach, terms_in, failure_places, nonzero_places, violated_cells, violated_places, constraints_per_row, LabelsFrom, domain, degree_in, BoundsDegrees, BoundsPolynomials, IsLeast, AuditRefuses};
 ghost use Rattle.air_audit.specs.Audits.{IsAuditUnder, AuditRefusesUnder};
 
 use air_builder::{Air, AirError, BaseAir};
@@ -67,10 +67,10 @@ pub fn audit_air<
     // values.
     ensures report { let x = instance (A.declaration air.now) main.now public_values.now in
         IfOk result (λ a. failure_places a.report
-        ≡ nonzero_places F.ring F.eq x ++ violated_cells F.ring F.eq x) }
+        ≡ nonzero_places F.ring F.eq x ++ violated_places F.ring F.eq x) }
     ensures labels { let x = instance (A.declaration air.now) main.now public_values.now in
         IfOk result (λ a. LabelsFrom (length (nonzero_places F.ring F.eq x))
-        (violations F.ring F.eq x) a.report) }
+        (violated_cells F.ring F.eq x) a.report) }
     ensures counts { let x = instance (A.declaration air.now) main.now public_values.now in
         IfOk result (λ a. (a.report.total_rows ≡ row_count x)
         × (a.report.total_constraints_per_row ≡ constraints_per_row x)) }

@@ -8,7 +8,7 @@ use Rattle.air_field.specs.Ring.{CommRing}
 use Rattle.air_core.specs.declared.boundary.BoundaryPublic.{BoundaryPublic}
 use Rattle.air_core.specs.declared.errors.AirError.{AirError}
 use Rattle.air_core.specs.declared.errors.AirError.TheVariants.{CountOverflow, Memory}
-use Rattle.air_report.specs.Cells.{differing_cells, take_within_cap, IsListedPast, CellsFit}
+use Rattle.air_report.specs.Cells.{violated_cells, take_within_cap, IsListedPast, CellsFit}
 use Rattle.air_report.specs.Checks.{CheckRefuses, Fits, RowsRan}
 use Rattle.air_report.specs.Instances.{Instance, instance_trace, row_count}
 use Rattle.air_report.specs.Report.{failure_place, report_of, constraints_counted}
@@ -43,7 +43,7 @@ pub cells_refused : {F : Type 0} (r : CommRing F) (eq : F → F → Bool) (g : I
     → Fits g → RowsRan r eq g cap shown → CellsFit g.main g.public g.air.cells
     → map failure_place fs ≡ report_of r eq (instance_trace g) g.air.constraints shown
     → count ≡ constraints_counted g.air.constraints shown → cells ≡ g.air.cells
-    → (e ≡ Memory) ⊎ ((e ≡ CountOverflow) × IsListedPast count (take_within_cap cap (length fs) (differing_cells r eq g.main g.public cells)))
+    → (e ≡ Memory) ⊎ ((e ≡ CountOverflow) × IsListedPast count (take_within_cap cap (length fs) (violated_cells r eq g.main g.public cells)))
     → CheckRefuses r eq g cap e
 cells_refused r eq g cap shown fs count cells e fits ran fit places counted same (inl m) = inr (fits, inl (inl m))
 cells_refused r eq g cap shown fs count cells e fits ran fit places counted same (inr o) =
@@ -56,9 +56,9 @@ cells_refused r eq g cap shown fs count cells e fits ran fit places counted same
           shown = shown;
           ran = ran;
           cells = fit;
-          past = subst (λ n. IsListedPast n (take_within_cap cap (length (report_of r eq (instance_trace g) g.air.constraints shown)) (differing_cells r eq g.main g.public g.air.cells))) counted
-              (subst (λ n. IsListedPast count (take_within_cap cap n (differing_cells r eq g.main g.public g.air.cells))) len
-              (subst (λ cs. IsListedPast count (take_within_cap cap (length fs) (differing_cells r eq g.main g.public cs))) same o.1));
+          past = subst (λ n. IsListedPast n (take_within_cap cap (length (report_of r eq (instance_trace g) g.air.constraints shown)) (violated_cells r eq g.main g.public g.air.cells))) counted
+              (subst (λ n. IsListedPast count (take_within_cap cap n (violated_cells r eq g.main g.public g.air.cells))) len
+              (subst (λ cs. IsListedPast count (take_within_cap cap (length fs) (violated_cells r eq g.main g.public cs))) same o.1));
         },
       )),
     )

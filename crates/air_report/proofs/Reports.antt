@@ -6,7 +6,7 @@ use Rattle.air_field.specs.Ring.{CommRing}
 use Rattle.air_builder.specs.Assertion.{Assertion}
 use Rattle.air_report.specs.laws.Report.{report_of-more}
 use Rattle.air_core.specs.declared.boundary.BoundaryPublic.{BoundaryPublic}
-use Rattle.air_report.specs.Cells.{differing_cells, take_within_cap, ListsCells}
+use Rattle.air_report.specs.Cells.{violated_cells, take_within_cap, ListsCells}
 use Rattle.air_report.specs.Checks.{CheckedRow, listed_cells}
 use Rattle.air_report.specs.Instances.{Instance, instance_trace, row_count}
 use Rattle.air_report.specs.Report.{failure_place, report_of, constraints_counted, IsReached}
@@ -34,9 +34,9 @@ reached_later None n h = h
 reached_later (Some cap) n h = omega (arith, h)
 
 -- the boundary values that are listed after the failures of the rows
-pub listed_after : {F : Type 0} (r : CommRing F) (eq : F → F → Bool) (g : Instance F) (cap : Option ℕ) (shown : ℕ) (fs gs : List ConstraintFailure) (count : ℕ) (cells : List BoundaryPublic) → map failure_place fs ≡ report_of r eq (instance_trace g) g.air.constraints shown → count ≡ constraints_counted g.air.constraints shown → cells ≡ g.air.cells → ListsCells (row_count g) count (take_within_cap cap (length fs) (differing_cells r eq g.main g.public cells)) fs gs → ListsCells (row_count g) (constraints_counted g.air.constraints shown) (listed_cells r eq g cap shown) fs gs
+pub listed_after : {F : Type 0} (r : CommRing F) (eq : F → F → Bool) (g : Instance F) (cap : Option ℕ) (shown : ℕ) (fs gs : List ConstraintFailure) (count : ℕ) (cells : List BoundaryPublic) → map failure_place fs ≡ report_of r eq (instance_trace g) g.air.constraints shown → count ≡ constraints_counted g.air.constraints shown → cells ≡ g.air.cells → ListsCells (row_count g) count (take_within_cap cap (length fs) (violated_cells r eq g.main g.public cells)) fs gs → ListsCells (row_count g) (constraints_counted g.air.constraints shown) (listed_cells r eq g cap shown) fs gs
 listed_after r eq g cap shown fs gs count cells places counted same l =
     let len : length fs ≡ length (report_of r eq (instance_trace g) g.air.constraints shown) = sym (length-map fs failure_place) ∙ ap length places in
     subst (λ n. ListsCells (row_count g) n (listed_cells r eq g cap shown) fs gs) counted
-    (subst (λ n. ListsCells (row_count g) count (take_within_cap cap n (differing_cells r eq g.main g.public g.air.cells)) fs gs) len
-    (subst (λ cs. ListsCells (row_count g) count (take_within_cap cap (length fs) (differing_cells r eq g.main g.public cs)) fs gs) same l))
+    (subst (λ n. ListsCells (row_count g) count (take_within_cap cap n (violated_cells r eq g.main g.public g.air.cells)) fs gs) len
+    (subst (λ cs. ListsCells (row_count g) count (take_within_cap cap (length fs) (violated_cells r eq g.main g.public cs)) fs gs) same l))

@@ -7,7 +7,7 @@ use Rattle.air_builder.specs.Refusals.{NoneMissing}
 use Rattle.air_core.specs.declared.boundary.BoundaryPublic.{BoundaryPublic}
 use Rattle.air_core.specs.declared.errors.AirError.{AirError}
 use Rattle.air_core.specs.declared.errors.AirError.TheVariants.{CountOverflow, Memory}
-use Rattle.air_report.specs.Cells.{differing_cells, take_within_cap, ListsCells, IsListedPast, CellsFit, IsCellFault, AgreeBelow, IsFirstDiffering}
+use Rattle.air_report.specs.Cells.{violated_cells, take_within_cap, ListsCells, IsListedPast, CellsFit, IsCellFault, HoldBelow, IsFirstViolated}
 use Rattle.air_report.specs.Debug.{nonzero_from}
 use Rattle.air_report.specs.RowRefusals.{IsFull}
 use Rattle.air_report.specs.Instances.{Instance, instance_trace, row_count}
@@ -46,13 +46,13 @@ pub record CheckedRows {F : Type 0} (r : CommRing F) (eq : F → F → Bool) (g 
 abbrev pub Fits : {F : Type 0} → Instance F → Type 0
 Fits g = ShapesFit g.air.periodic (row_count g) (table_height g.air.preprocessed)
 
--- the differing boundary values that a cap lists after the first n rows
+-- the violated boundary values that a cap lists after the first n rows
 abbrev pub listed_cells : {F : Type 0} → CommRing F → (F → F → Bool) → Instance F → Option ℕ → ℕ → List (ℕ × BoundaryPublic)
 listed_cells r eq g cap n =
     take_within_cap cap (length (report_of r eq (instance_trace g) g.air.constraints n))
-    (differing_cells r eq g.main g.public g.air.cells)
+    (violated_cells r eq g.main g.public g.air.cells)
 
--- The report of a check under a cap: the nonzero pairs of the rows that the cap shows, and then the differing boundary
+-- The report of a check under a cap: the nonzero pairs of the rows that the cap shows, and then the violated boundary
 -- values, as many as the cap leaves. The shapes and the boundary values fit.
 pub record IsReport {F : Type 0} (r : CommRing F) (eq : F → F → Bool) (g : Instance F) (cap : Option ℕ) (report : ConstraintReport) : Type 0 where
   pub shapes : Fits g
@@ -97,44 +97,44 @@ abbrev pub CheckRefuses : {F : Type 0} → CommRing F → (F → F → Bool) →
 CheckRefuses r eq g cap e = IsShapeFault g.air.periodic (row_count g) (table_height g.air.preprocessed) e
     ⊎ (Fits g × (RowsRefuse cap g e ⊎ (RefusesCells r eq g cap e ⊎ ((e ≡ CountOverflow) × IsCellPastCount r eq g cap))))
 
--- each boundary value fits and equals its public value
-pub record CellsAgree {F : Type 0} (r : CommRing F) (eq : F → F → Bool) (g : Instance F) : Type 0 where
+-- each boundary value fits and holds
+pub record CellsHold {F : Type 0} (r : CommRing F) (eq : F → F → Bool) (g : Instance F) : Type 0 where
   pub fit : CellsFit g.main g.public g.air.cells
-  pub agree : AgreeBelow r eq g.main g.public g.air.cells (length g.air.cells)
+  pub hold : HoldBelow r eq g.main g.public g.air.cells (length g.air.cells)
 
--- The trace satisfies the constraints: no boundary value differs, and no pair of row and constraint index is nonzero.
+-- The trace satisfies the constraints: no boundary value is violated, and no pair of row and constraint index is nonzero.
 pub record IsSatisfied {F : Type 0} (r : CommRing F) (eq : F → F → Bool) (g : Instance F) : Type 0 where
   pub shapes : Fits g
-  pub cells : CellsAgree r eq g
+  pub cells : CellsHold r eq g
   pub none : report_of r eq (instance_trace g) g.air.constraints (row_count g) ≡ []
   pub there : 0 < row_count g → HasEntries g
 
--- The first differing boundary value, and its row.
-pub record IsMismatch {F : Type 0} (r : CommRing F) (eq : F → F → Bool) (g : Instance F) (row index : ℕ) : Type 0 where
+-- The first violated boundary value, and its row.
+pub record IsFirstViolatedAt {F : Type 0} (r : CommRing F) (eq : F → F → Bool) (g : Instance F) (row index : ℕ) : Type 0 where
   pub shapes : Fits g
   pub cells : CellsFit g.main g.public g.air.cells
-  pub first : IsFirstDiffering r eq g.main g.public g.air.cells index
+  pub first : IsFirstViolated r eq g.main g.public g.air.cells index
   pub row_is : HoldsAt (λ cell. row ≡ row_of cell.end (row_count g)) g.air.cells index
 
--- No boundary value differs; this is the least row with a nonzero pair, and these are all of its pairs. The trace has the
--- entries.
+-- No boundary value is violated; this is the least row with a nonzero pair, and these are all of its pairs. The trace
+-- has the entries.
 pub record IsFailedRow {F : Type 0} (r : CommRing F) (eq : F → F → Bool) (g : Instance F) (row : ℕ) (fs : List ConstraintFailure) : Type 0 where
   pub shapes : Fits g
-  pub cells : CellsAgree r eq g
+  pub cells : CellsHold r eq g
   pub within : row < row_count g
   pub before : report_of r eq (instance_trace g) g.air.constraints row ≡ []
   pub places : map failure_place fs ≡ report_of r eq (instance_trace g) g.air.constraints (row + 1)
   pub some : fs ≢ []
   pub there : HasEntries g
 
--- The errors, in order: a shape that doesn't fit; a boundary value that doesn't fit; once all boundary values fit and agree,
--- the errors of the rows.
+-- The errors, in order: a shape that doesn't fit; a boundary value that doesn't fit; once all boundary values fit and
+-- hold, the errors of the rows.
 abbrev pub FirstCheckRefuses : {F : Type 0} → CommRing F → (F → F → Bool) → Instance F → AirError → Type 0
 FirstCheckRefuses r eq g e = IsShapeFault g.air.periodic (row_count g) (table_height g.air.preprocessed) e
-    ⊎ (Fits g × (IsCellFault g.main g.public g.air.cells e ⊎ (CellsAgree r eq g × RowsRefuse None g e)))
+    ⊎ (Fits g × (IsCellFault g.main g.public g.air.cells e ⊎ (CellsHold r eq g × RowsRefuse None g e)))
 
 -- the errors of a check up to the first fault
 abbrev pub IsFirstError : {F : Type 0} → CommRing F → (F → F → Bool) → Instance F → CheckError → Type 0
-IsFirstError r eq g (BoundaryMismatch row index) = IsMismatch r eq g row index
+IsFirstError r eq g (BoundaryMismatch row index) = IsFirstViolatedAt r eq g row index
 IsFirstError r eq g (RowFailed row failures) = IsFailedRow r eq g row failures.items
 IsFirstError r eq g (NotChecked e) = FirstCheckRefuses r eq g e

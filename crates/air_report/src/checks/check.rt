@@ -128,7 +128,7 @@ fn check_rows<'a, F: SelfExtension + 'static, A: Air<DebugConstraintBuilder<'a, 
 /// Checks the shapes of the preprocessed trace and of the periodic columns. Then evaluates the AIR on the rows of the
 /// trace, each paired with the next one around the end, while there are fewer failures than `max_failures`. Then
 /// compares the boundary values with their public values. The report lists each constraint that isn't zero, by row and
-/// then by constraint index, and then the boundary values that differ, in order, as many as the cap leaves.
+/// then by constraint index, and then the violated boundary values, in order, as many as the cap leaves.
 ///
 /// Errors, in this order: the first shape that doesn't fit; if a row runs, a missing entry that a constraint names, or
 /// a count past `usize`; the first boundary value that doesn't fit the trace, or boundary values of a trace without

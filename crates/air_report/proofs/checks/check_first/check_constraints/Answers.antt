@@ -17,7 +17,7 @@ returns-then-has_failures-clause-error g c =
     let all = instance (g.A.BaseAir.declaration c.args.air.now) c.args.main.now c.args.public_values.now in
     record {
       shapes = instance_fits all c.periodic_columns.ensures c.height-height.ensures (c.table_height.ensures ∙ ap table_height c.preprocessed_trace.ensures) c.in_ok-check_shapes.ensures;
-      cells = record { fit = subst (λ cs. CellsFit all.main all.public cs) c.public_boundary_io-cells.ensures c.in_ok-check_cells.ensures.fit; agree = search rules };
+      cells = record { fit = subst (λ cs. CellsFit all.main all.public cs) c.public_boundary_io-cells.ensures c.in_ok-check_cells.ensures.fit; hold = search rules };
       within = omega arith;
       before = c.rows.invariant.none;
       places = ap (λ v. map failure_place v.items) c.into_failures.ensures
@@ -48,7 +48,7 @@ returns-clause-kept g c =
     let done : c.rows.row ≡ row_count all = omega arith in
     record {
       shapes = instance_fits all c.periodic_columns.ensures c.height-height.ensures (c.table_height.ensures ∙ ap table_height c.preprocessed_trace.ensures) c.in_ok-check_shapes.ensures;
-      cells = record { fit = subst (λ cs. CellsFit all.main all.public cs) c.public_boundary_io-cells.ensures c.in_ok-check_cells.ensures.fit; agree = search rules };
+      cells = record { fit = subst (λ cs. CellsFit all.main all.public cs) c.public_boundary_io-cells.ensures c.in_ok-check_cells.ensures.fit; hold = search rules };
       none = ap (λ n. report_of r eq (instance_trace all) all.air.constraints n) (sym done) ∙ c.rows.invariant.none;
       there = λ h. c.rows.invariant.there (subst (λ n. 0 < n) (sym done) h);
     }
@@ -62,7 +62,7 @@ returns-in_err-check_row-clause-error g c =
     let fit = subst (λ cs. CellsFit all.main all.public cs) c.public_boundary_io-cells.ensures c.in_ok-check_cells.ensures.fit in
     let some : 0 < row_count all = omega arith in
     error_is c.from_residual-in_err-check_row.result c.from_residual-in_err-check_row.ensures.1 (IsFirstError r eq all)
-    (inr (fits, inr (record { fit = fit; agree = search rules }, inr ((some, λ h. h), c.in_err-check_row.ensures.refused))))
+    (inr (fits, inr (record { fit = fit; hold = search rules }, inr ((some, λ h. h), c.in_err-check_row.ensures.refused))))
 
 pub returns-in_err-check_row-clause-kept : goal.returns-in_err-check_row-clause-kept
 returns-in_err-check_row-clause-kept g c =
@@ -92,8 +92,8 @@ returns-in_err-check_cells-clause-error g c =
     error_is c.from_residual-in_err-check_cells.result c.from_residual-in_err-check_cells.ensures.1 (IsFirstError g.F.Field.ring g.F.PartialEq.eq all)
     (inr (fits, inl (subst (λ cs. IsCellFault all.main all.public cs c.in_err-check_cells.field-0.0) c.public_boundary_io-cells.ensures c.in_err-check_cells.ensures.refused)))
 
-pub first_mismatch-requires : goal.first_mismatch-requires
-first_mismatch-requires g c = c.in_ok-check_cells.ensures.fit
+pub first_violated-requires : goal.first_violated-requires
+first_violated-requires g c = c.in_ok-check_cells.ensures.fit
 
 pub rows-init : goal.rows-init
 rows-init g c = record {
