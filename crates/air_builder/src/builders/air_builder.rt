@@ -1,5 +1,5 @@
 //! The interface of builders.
-ghost use Rattle.std.specs.Prelude.{◌≡◌, ◌↔◌, ◌≤◌, ℕ, List, [], ◌∷◌, None, length, All, IfOk, IfErr, IfSome, IsOk};
+ghost use Rattle.std.specs.Prelude.{◌≡◌, ◌↔◌, ◌≤◌, ℕ, refl, List, [], ◌∷◌, None, length, All, IfOk, IfErr, IfSome, IsOk};
 ghost use Rattle.std.specs.List.{zip};
 ghost use Rattle.std.specs.Borrow.{sem, Lends};
 ghost use Rattle.air_field.specs.Algebra.{MadeOf, RefusedOf, bool_check_term};
@@ -87,9 +87,10 @@ pub trait AirBuilder {
     /// Growing by these assertions may fail with this error.
     ghost refuses: { Self → AirError → List (Assertion Self.F) → Type 0 };
 
-    ghost WINDOW: { ℕ };
+    /// A window has two rows.
+    ghost WINDOW: { ℕ } = { 2 };
 
-    ghost two_rows: { WINDOW ≡ 2 };
+    ghost two_rows: { WINDOW ≡ 2 } = { refl };
 
     /// The ring in which this builder's expressions are made. The caller must leave an extension of the lent ring
     /// there.
@@ -98,8 +99,8 @@ pub trait AirBuilder {
             (with_ring self.old)) }
         ensures value { result.now ≡ ring_of self.old };
 
-    /// The number of rows of a window, which is 2.
-    const WINDOW: usize;
+    /// The number of rows of a window.
+    const WINDOW: usize = 2;
 
     /// The window of the main trace. A builder that allocates its window may fail with `Memory`.
     fn main(&self) -> Result<Self::MainWindow, AirError>

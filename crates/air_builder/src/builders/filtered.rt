@@ -89,12 +89,6 @@ impl<'a, AB: AirBuilder> AirBuilder for FilteredAirBuilder<'a, AB> {
         (λ p s. record p { inner = record p.inner { now = s } }) (λ p s. refl) (λ p s. refl)
         (λ p s. refl) };
 
-    ghost WINDOW = { 2 };
-
-    ghost two_rows = { refl };
-
-    const WINDOW: usize = 2;
-
     #[inline(always)]
     fn ring(&mut self) -> &mut AB::Ring {
         self.inner.ring()

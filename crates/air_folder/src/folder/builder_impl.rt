@@ -1,6 +1,6 @@
 //! The folder as a builder: an expression is its value, and an assertion multiplies the accumulator by alpha and adds
 //! its value.
-ghost use Rattle.std.specs.Prelude.{◌≡◌, refl, ⊤};
+ghost use Rattle.std.specs.Prelude.{◌≡◌, ⊤};
 ghost use Rattle.air_folder.specs.Folder.{folder_reads_as, FolderMissing, FolderRefuses};
 ghost use Rattle.air_folder.specs.laws.Folder.{folder_laws};
 ghost use Rattle.air_folder.specs.FolderRow.{folder_row, FolderGrew};
@@ -43,12 +43,6 @@ impl<'a, F: Field, EF: ExtensionField<F>> AirBuilder for ConstraintFolder<'a, F,
     ghost refuses = { λ b e ts. FolderRefuses (folder_row b) e ts };
 
     ghost laws = { folder_laws EF.over EF.basis };
-
-    ghost WINDOW = { 2 };
-
-    ghost two_rows = { refl };
-
-    const WINDOW: usize = 2;
 
     fn ring(&mut self) -> &mut FolderRing<F, EF> {
         &mut self.ring

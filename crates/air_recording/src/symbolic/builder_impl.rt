@@ -70,12 +70,6 @@ impl<F: Field, EF: ExtensionField<F>> AirBuilder for SymbolicAirBuilder<F, EF> {
         (λ b. lists_of b.constraints) (λ b r g. base_lent EF.ExtensionField.laws b.pool
         r g) (λ _ _. refl) (λ _ _. refl) (λ _ _. refl) };
 
-    ghost WINDOW = { 2 };
-
-    ghost two_rows = { refl };
-
-    const WINDOW: usize = 2;
-
     fn ring(&mut self) -> &mut ExprPool<BaseLeaf<F>> {
         self.pool.base_mut()
     }

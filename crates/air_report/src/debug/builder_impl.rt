@@ -54,12 +54,6 @@ impl<'a, F: Field, EF: ExtensionField<F> + 'static> AirBuilder
         (row_reads_as F.ring EF.over EF.basis) (λ b. b.ring) (λ b r. record b { ring = r })
         (λ _ _. refl) (λ _ _. refl) (λ _ _. refl) (λ _ _. refl) };
 
-    ghost WINDOW = { 2 };
-
-    ghost two_rows = { refl };
-
-    const WINDOW: usize = 2;
-
     #[inline(always)]
     fn ring(&mut self) -> &mut FieldRing<F> {
         &mut self.ring
