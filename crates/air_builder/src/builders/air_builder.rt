@@ -1,5 +1,5 @@
 //! The interface of builders.
-ghost use Rattle.std.specs.Prelude.{◌≡◌, ◌↔◌, ◌≤◌, ℕ, refl, List, [], ◌∷◌, None, length, All, IfOk, IfErr, IfSome, IsOk};
+ghost use Rattle.std.specs.Prelude.{◌≡◌, ◌↔◌, ◌≤◌, List, [], ◌∷◌, None, length, All, IfOk, IfErr, IfSome, IsOk};
 ghost use Rattle.std.specs.List.{zip};
 ghost use Rattle.std.specs.Borrow.{sem, Lends};
 ghost use Rattle.air_field.specs.Algebra.{MadeOf, RefusedOf, bool_check_term};
@@ -86,11 +86,6 @@ pub trait AirBuilder {
 
     /// Growing by these assertions may fail with this error.
     ghost refuses: { Self → AirError → List (Assertion Self.F) → Type 0 };
-
-    /// A window has two rows.
-    ghost WINDOW: { ℕ } = { 2 };
-
-    ghost two_rows: { WINDOW ≡ 2 } = { refl };
 
     /// The ring in which this builder's expressions are made. The caller must leave an extension of the lent ring
     /// there.
