@@ -3,7 +3,7 @@ use Rattle.std.specs.List.{AllZip, list_any}
 use Rattle.std.specs.Prelude.{slice_get, ◌≡◌, ◌||◌, ℕ, ◌<◌, List, length, slice_index_or, All, Bool, false, Option, None, Some, ⊤, ◌==◌}
 use Rattle.air_field.specs.Term.{Term, leaf_term, main}
 use Rattle.air_symbolic.specs.Leaves.{Leaves}
-use Rattle.air_symbolic.specs.Nodes.{IsNode}
+use Rattle.air_symbolic.specs.Nodes.{operands, IsNode}
 use Rattle.air_symbolic.specs.Reach.{Marked}
 use Rattle.air_symbolic.specs.declared.pools.expr.SymbolicExpr.{SymbolicExpr}
 use Rattle.air_symbolic.specs.declared.pools.expr.SymbolicExpr.TheVariants as node
@@ -71,11 +71,7 @@ pub record AreSteps {A F : Type 0} (l : Leaves A F) (ns : List (SymbolicExpr A))
 
 -- whether number i is an operand of the node
 abbrev pub has_operand : {A : Type 0} → ℕ → SymbolicExpr A → Bool
-has_operand i (node.Leaf a) = false
-has_operand i (node.Add x y d) = (i == x) || (i == y)
-has_operand i (node.Sub x y d) = (i == x) || (i == y)
-has_operand i (node.Neg x d) = i == x
-has_operand i (node.Mul x y d) = (i == x) || (i == y)
+has_operand i n = list_any (λ x. i == x) (operands n)
 
 abbrev pub some_has_operand : {A : Type 0} → ℕ → Option (SymbolicExpr A) → Bool
 some_has_operand i None = false

@@ -5,7 +5,7 @@ use Rattle.air_symbolic.specs.laws.ExtPool.{ext_pool_laws}
 use Rattle.air_symbolic.specs.Lowered.{CanLower}
 use Rattle.air_symbolic.proofs.Lowering.{lowered-there}
 use Rattle.air_symbolic.proofs.ReachedTrees.{mark-can-lower, more-lowered, lowered-at-first}
-use Rattle.air_symbolic.proofs.pools.lower.ExprPool+ExtLeaf+F+EF.lower_into.Goals as goal
+use Rattle.air_symbolic.proofs.pools.lower.ExprPool+ExtLeaf+F+EF.lower.Goals as goal
 
 pub lower_mark-requires : goal.lower_mark-requires
 lower_mark-requires g c =

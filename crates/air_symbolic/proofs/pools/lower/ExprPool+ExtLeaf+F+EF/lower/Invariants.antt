@@ -3,7 +3,7 @@ use Rattle.air_symbolic.specs.ExtLeaves.{ext_grows, ext_reads}
 use Rattle.air_symbolic.specs.Lowered.{LoweredAt}
 use Rattle.air_symbolic.specs.Pools.{Grown}
 use Rattle.air_symbolic.specs.Reach.{Marked}
-use Rattle.air_symbolic.proofs.pools.lower.ExprPool+ExtLeaf+F+EF.lower_into.Given as goal
+use Rattle.air_symbolic.proofs.pools.lower.ExprPool+ExtLeaf+F+EF.lower.Given as goal
 
 -- the marked numbers so far are lowered in the present base pool
 abbrev pub invariant-loop-mark : goal.invariant-loop-mark
