@@ -1,7 +1,7 @@
 -- The plan of roots.
 use Rattle.std.specs.List.{AllZip, list_any}
 use Rattle.std.proofs.Common.{slice_get, ◌≡◌, ◌⊎◌, ◌≤◌, ◌||◌, ℕ, zero, suc, ◌+◌, ◌<◌, List, [], ◌∷◌, ◌++◌, length, get_or, All, Bool, true, false, eqb, Option, None, Some, inl, inr, refl, sym, subst, ap, ◌∙◌, arith, ⊎_elim}
-use Rattle.std.proofs.lemmas.List.Elements.{All-contains}
+use Rattle.std.proofs.lemmas.List.Elements.{All-head, All-tail, All-contains}
 use Rattle.std.proofs.lemmas.List.Folds.{list_any_at}
 use Rattle.std.proofs.Math.ListN.{get_or-eq_default}
 use Rattle.std.proofs.lemmas.List.{get_or_default, get_or_append_left, get_or_push}
@@ -9,10 +9,9 @@ use Rattle.air_symbolic.specs.Leaves.{Leaves}
 use Rattle.air_symbolic.specs.Nodes.{operands, IsNode, OperandsBelow}
 use Rattle.air_symbolic.specs.Reach.{EachOperand, IsOperand, Marked, Reached, ReachedFrom, root, operand}
 use Rattle.air_symbolic.specs.declared.pools.expr.SymbolicExpr.{SymbolicExpr}
-use Rattle.air_symbolic.specs.declared.pools.expr.SymbolicExpr.TheVariants as node
 use Rattle.air_audit.specs.declared.flat.step.Step.{Step}
 use Rattle.air_audit.specs.declared.flat.step.Step.TheVariants as step
-use Rattle.air_audit.specs.Plans.{number_at, IsPlaceOf, StepMakes, MakesPlace, AreSteps, has_operand, some_has_operand, IsUsed, IsPlan, HavePlaces}
+use Rattle.air_audit.specs.Plans.{number_at, IsPlaceOf, step_places, StepMakes, MakesPlace, AreSteps, has_operand, some_has_operand, IsUsed, IsPlan, HavePlaces}
 use Rattle.air_audit.specs.ExtPlans.{HaveRoots, IsOrder}
 
 -- operands below k
@@ -22,17 +21,12 @@ each_below P Q k n f b h = λ j d lt. f _ (b j d lt) (h j d lt)
 pub each_within : {A : Type 0} (k m : ℕ) (n : SymbolicExpr A) → k ≤ m → OperandsBelow k n → EachOperand (λ i. i < m) n
 each_within k m n le b = λ j d lt. let low = b j d lt in omega (arith, le, low)
 
--- a step whose places are those of the operands
-pub step_placed : {A F : Type 0} (l : Leaves A F) (P Q : ℕ → ℕ → Type 0) (R : ℕ → Type 0) (s : Step) (n : SymbolicExpr A) → ((p i : ℕ) → R i → P p i → Q p i) → EachOperand R n → StepMakes l P s n → StepMakes l Q s n
-step_placed l P Q R step.Leaf n f r h = h
-step_placed l P Q R (step.Current c) n f r h = h
-step_placed l P Q R (step.Next c) n f r h = h
-step_placed l P Q R (step.Add p q) (node.Add x y d) f r h = (f p x (r 0 x (omega arith)) h.0, f q y (r 1 y (omega arith)) h.1)
-step_placed l P Q R (step.Sub p q) (node.Sub x y d) f r h = (f p x (r 0 x (omega arith)) h.0, f q y (r 1 y (omega arith)) h.1)
-step_placed l P Q R (step.Neg p) (node.Neg x d) f r h = f p x (r 0 x (omega arith)) h
-step_placed l P Q R (step.Mul p q) (node.Mul x y d) f r h = (f p x (r 0 x (omega arith)) h.0, f q y (r 1 y (omega arith)) h.1)
-step_placed l P Q R (step.Gate p q) (node.Mul x y d) f r h = (f p x (r 0 x (omega arith)) h.0, f q y (r 1 y (omega arith)) h.1)
-step_placed l P Q R _ _ f r h = absurd h
+-- places that some operands have, in another way
+zip_placed : (P Q : ℕ → ℕ → Type 0) (R : ℕ → Type 0) → ((p i : ℕ) → R i → P p i → Q p i) → (places is : List ℕ) → All R is → AllZip P places is → AllZip Q places is
+zip_placed P Q R f [] [] r h = tt
+zip_placed P Q R f [] (i ∷ is) r h = absurd h
+zip_placed P Q R f (p ∷ places) [] r h = absurd h
+zip_placed P Q R f (p ∷ places) (i ∷ is) r h = (f p i (All-head R i is r) h.0, zip_placed P Q R f places is (All-tail R i is r) h.1)
 
 -- One step more makes the node of place k, whose operands stand before it.
 pub one_step_more : {A F : Type 0} (l : Leaves A F) (ns : List (SymbolicExpr A)) (numbers places : List ℕ) (k id : ℕ) (steps new : List Step) (s : Step) (n : SymbolicExpr A)
@@ -40,7 +34,7 @@ pub one_step_more : {A F : Type 0} (l : Leaves A F) (ns : List (SymbolicExpr A))
     → k < length numbers → id ≡ get_or numbers k id → IsNode l ns id n
     → ((m : SymbolicExpr A) → IsNode l ns (number_at numbers k) m → EachOperand (λ i. IsPlaceOf numbers k (get_or places i 0) i) m)
     → StepMakes l (λ p i. p ≡ get_or places i 0) s n → (j : ℕ) → j < k + 1 → MakesPlace l ns numbers j (get_or new j step.Leaf)
-one_step_more l ns numbers places k id steps new s n pushed long before in_numbers at is operands made j below =
+one_step_more l ns numbers places k id steps new s n pushed long before in_numbers at is placed made j below =
     subst (λ x. MakesPlace l ns numbers j x) (sym (ap (λ xs. get_or xs j step.Leaf) pushed))
     (⊎_elim
     (λ (lt : j < k).
@@ -61,9 +55,9 @@ one_step_more l ns numbers places k id steps new s n pushed long before in_numbe
         let one : Some n ≡ Some m = sym is.node ∙ ap (slice_get ns) (sym number) ∙ m_is.node in
         let same : n ≡ m = cc in
         subst (StepMakes l (IsPlaceOf numbers k) s) same
-        (step_placed l (λ p i. p ≡ get_or places i 0) (IsPlaceOf numbers k) (λ i. IsPlaceOf numbers k (get_or places i 0) i) s n
+        (made.0, zip_placed (λ p i. p ≡ get_or places i 0) (IsPlaceOf numbers k) (λ i. IsPlaceOf numbers k (get_or places i 0) i)
         (λ p i r e. subst (λ q. IsPlaceOf numbers k q i) (sym e) r)
-        (operands n (subst (λ v. IsNode l ns v n) (sym number) is)) made)
+        (step_places s) (operands n) (placed n (subst (λ v. IsNode l ns v n) (sym number) is)) made.1)
 
 eqb_same : (i x : ℕ) → i ≡ x → eqb i x ≡ true
 eqb_same i x e = grind (arith, e)

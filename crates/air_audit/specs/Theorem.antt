@@ -318,12 +318,12 @@ ReportRefuses r eq x CountOverflow =
     (k : ℕ) × (c : ℕ × BoundaryPublic) × (slice_get (violated_cells r eq x) k ≡ Some c) × (2 ^ 64 ≤ constraints_per_row x + c.0)
 ReportRefuses r eq x _ = ⊥
 
--- some terms that record the declared constraints have a degree past `usize`, by the domain's weights
+-- the degree of some terms that record the declared constraints passes `usize`
 pub record DegreeOverflows {F : Type 0} (r : CommRing F) (w : ℕ) (x : Instance F) : Type 0 where
   pub base : List (Term F)
   pub ext : List (Term F)
   pub recorded : RecordConstraints r x.air base ext
-  pub past : 2 ^ 64 ≤ greatest_degree (domain w x).weight (base ++ ext)
+  pub past : 2 ^ 64 ≤ degree_in w x (base ++ ext)
 
 -- The first error: of the recording, the fixed columns, the rows, the boundary values, the report, the degree. Each line
 -- states the conditions that hold before it.

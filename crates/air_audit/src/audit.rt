@@ -1,6 +1,5 @@
 //! The audit: an AIR is recorded and checked in one call, so that the recorded constraints are the tested ones.
 ghost use Rattle.std.specs.Prelude.{◌≡◌, ◌≤◌, ◌<◌, ◌^◌, ◌++◌, length, IfOk, IfErr, OnOk};
-ghost use Rattle.air_field.specs.Degree.{greatest_degree};
 ghost use Rattle.air_audit.specs.Theorem.{instance, row_count, NamesOwnEntries, FitsDeclaration, RecordsEach, MeansEach, terms_in, failure_places, nonzero_places, violated_cells, violated_places, constraints_per_row, LabelsFrom, domain, degree_in, BoundsDegrees, BoundsPolynomials, IsLeast, AuditRefuses};
 ghost use Rattle.air_audit.specs.Audits.{IsAuditUnder, AuditRefusesUnder};
 
@@ -79,8 +78,7 @@ pub fn audit_air<
     // the leaves' are within theirs; from three rows on it is the least that bounds the terms' degrees.
     ensures degree { let x = instance (A.declaration air.now) main.now public_values.now in
         IfOk result (λ a. (a.degree ≡ degree_in transition_weight x (terms_in F.basis a.recorded))
-        × (greatest_degree (domain transition_weight x).weight (terms_in F.basis a.recorded)
-        < 2 ^ 64)) }
+        × (degree_in transition_weight x (terms_in F.basis a.recorded) < 2 ^ 64)) }
     ensures bounded { let x = instance (A.declaration air.now) main.now public_values.now in
         IfOk result (λ a. 2 ≤ row_count x → BoundsPolynomials F.ring (domain transition_weight x)
         (terms_in F.basis a.recorded) a.degree) }
