@@ -1,5 +1,5 @@
 -- What an audit under no cap answers and refuses, as `audit_air` says it.
-use Rattle.std.proofs.Common.{Result, Ok, Err, IfOk, IfErr, OnOk, ◌≡◌, ℕ, ◌+◌, ◌<◌, ◌≤◌, ◌^◌, List, [], ◌∷◌, ◌++◌, map, length, drop, slice_get, Bool, Some, None, refl, sym, ap, ap₂, ◌∙◌, subst, inl, inr}
+use Rattle.std.proofs.Common.{Result, Ok, Err, IfOk, IfErr, OnOk, ◌≡◌, ℕ, ◌+◌, ◌<◌, ◌≤◌, ◌^◌, List, [], ◌∷◌, ◌++◌, map, length, take, drop, slice_get, Bool, Some, None, refl, sym, ap, ap₂, ◌∙◌, subst, inl, inr}
 use Rattle.std.proofs.lemmas.List.{map-append, length-map}
 use Rattle.air_field.specs.Ring.{CommRing}
 use Rattle.air_field.specs.Assignment.{IsMissing}
@@ -10,7 +10,9 @@ use Rattle.air_report.specs.Cells.{cell_label, cell_place, label_text}
 use Rattle.air_report.specs.Checks.{Fits, HasEntries, IsCellPastCount, IsReport, RowsRan, RowRefuses}
 use Rattle.air_report.specs.Instances.{instance_trace}
 use Rattle.air_report.specs.Report.{constraints_counted, failure_place, report_of}
+use Rattle.air_report.specs.RowLabels.{LabelledRows, LabelsRows}
 use Rattle.air_report.specs.declared.checks.report.ConstraintReport.{ConstraintReport}
+use Rattle.air_report.specs.declared.debug.builder.DebugConstraintBuilder.{DebugConstraintBuilder}
 use Rattle.air_audit.specs.Theorem.{Instance, row_count, RowsHaveEntries, FixedColumnsFit, FitsDeclaration, constraints_per_row, failure_places, nonzero_places, violated_cells, violated_places, LabelsFrom, RecordingRefuses, IsRecordable, ReportRefuses, AuditRefuses}
 use Rattle.air_audit.specs.Audits.{AuditRefusesUnder}
 use Rattle.air_audit.specs.laws.Theorem.{cells_refuse, fixed_columns_fit, fixed_columns_refuse, labels_are, nonzero_places_are, proper_below, rows_refuse, shape_is, violated_cells_are}
@@ -47,6 +49,13 @@ module _ {F : Type 0} (r : CommRing F) (eq : F → F → Bool) (x : Instance F) 
   entries : {shown : ℕ} → RowsRan r eq x None shown → RowsHaveEntries x
   entries ran =
       subst (λ s. 0 < row_count x → NoneMissing (IsMissing s) x.air.constraints) (sym (shape_is x)) (subst (λ n. 0 < n → HasEntries x) (all_shown ran) ran.there)
+
+  -- the rows' failures are the first, as many as there are nonzero places
+  pub row_labels : (says : DebugConstraintBuilder F F → DebugConstraintBuilder F F → Type 0) (report : ConstraintReport) → LabelsRows r eq x None says report
+      → LabelledRows says (row_count x) (take (length (nonzero_places r eq x)) report.failures.items)
+  row_labels says report h =
+      subst (λ ps. LabelledRows says (row_count x) (take (length ps) report.failures.items)) (sym (nonzero_places_are r x eq))
+      (subst (λ n. LabelledRows says n (take (length (report_of r eq (instance_trace x) x.air.constraints n)) report.failures.items)) (all_shown h.ran) h.labelled)
 
   module _ (report : ConstraintReport) (p : IsReport r eq x None report) where
     at : p.shown ≡ row_count x

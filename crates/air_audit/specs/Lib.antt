@@ -142,6 +142,7 @@ pub use Rattle.air_report.specs.Debug
 pub use Rattle.air_report.specs.DebugRow
 pub use Rattle.air_report.specs.DebugAsserts
 pub use Rattle.air_report.specs.DebugLabels
+pub use Rattle.air_report.specs.RowLabels
 pub use Rattle.air_report.specs.FailureTexts
 pub use Rattle.air_report.specs.declared.checks.check_first.CheckError
 pub use Rattle.air_report.specs.declared.checks.report.ConstraintReport

@@ -1,7 +1,8 @@
 //! A row of an AIR with permutation data, checked by itself.
-ghost use Rattle.std.specs.Prelude.{◌≡◌, ◌<◌, ◌⊎◌, length, IfOk, IfErr};
+ghost use Rattle.std.specs.Prelude.{◌≡◌, ◌<◌, ◌⊎◌, [], length, IfOk, IfErr};
 ghost use Rattle.air_core.specs.declared.errors.AirError.{AirError};
 ghost use Rattle.air_report.specs.Debug.{is_zero_at};
+ghost use Rattle.air_report.specs.RowLabels.{LabelledRow};
 ghost use Rattle.air_report.specs.RowRefusals.{RefusedAtRow};
 ghost use Rattle.air_audit.specs.PermutationRows.{permutation_at, row_with_permutation, FailAtRow};
 
@@ -67,6 +68,8 @@ pub fn check_row_with_permutation<
         permutation.entry.values.now row) row in
         IfErr result (λ e. (e ≡ AirError.Memory) ⊎ RefusedAtRow
         (is_zero_at F.ring EF.over F.eq EF.eq) r 0 e (A.plain air.now).0) }
+    ensures labels { IfOk result (λ failures. LabelledRow (A.labels air.now) row []
+        failures.items) }
 {
     let none = RowMajorMatrixView::new_row(&[]);
     let selectors = Selectors::at(row, main.height());

@@ -1,5 +1,6 @@
 pub mod Powers
 pub mod RowsAt
+pub mod RowsLabelled
 pub mod Reports
 pub mod CellsListed
 pub mod FailureLists

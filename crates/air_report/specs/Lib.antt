@@ -17,4 +17,5 @@ pub mod FailureTexts
 pub mod DebugLabels
 pub mod DebugAsserts
 pub mod Checks
+pub mod RowLabels
 pub mod laws

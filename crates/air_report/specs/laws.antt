@@ -4,5 +4,6 @@ pub mod DebugLabels
 pub mod DebugValues
 pub mod Plain
 pub mod Report
+pub mod RowLabels
 pub mod VanishingReports
 pub mod VanishingChecks

@@ -3,8 +3,9 @@ ghost use Rattle.std.specs.Prelude.{◌≡◌, ◌<◌, [], All, Some, None, IfO
 ghost use Rattle.air_symbolic.specs.BaseLeaves.{base_leaves};
 ghost use Rattle.air_symbolic.specs.Pools.{size};
 ghost use Rattle.air_core.specs.declared.errors.AirError.{AirError};
+ghost use Rattle.air_builder.specs.Labels.{LabelledBy};
 ghost use Rattle.air_audit.specs.FlatAirs.{RootsIn, zero_at_roots};
-ghost use Rattle.air_audit.specs.RootLabels.{root_label};
+ghost use Rattle.air_audit.specs.RootLabels.{root_label, RootSays};
 ghost use Rattle.air_audit.specs.Plans.{IsPlan};
 ghost use Rattle.air_audit.specs.laws.FlatAirs.{RootsIn-prop};
 ghost use Rattle.air_audit.specs.laws.Plans.{IsPlan-prop};
@@ -156,6 +157,9 @@ impl<F: Field> BaseAir<F> for FlatAir<F> {
 }
 
 impl<AB: NamedAirBuilder> Air<AB> for FlatAir<AB::F> {
+    ghost labels = { λ air a b. LabelledBy AB.labelled (RootSays air.labels.items) a b
+        (zero_at_roots air.pool air.roots.items) };
+
     fn eval(&self, builder: &mut AB) -> Result<(), AirError> {
         if self.roots.is_empty() {
             return Ok(());

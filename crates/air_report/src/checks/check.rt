@@ -5,6 +5,7 @@ ghost use Rattle.air_field.specs.Assignment.{row_or_none};
 ghost use Rattle.air_field.specs.Grid.{table_grid};
 ghost use Rattle.air_report.specs.Report.{IsReached};
 ghost use Rattle.air_report.specs.Instances.{instance};
+ghost use Rattle.air_report.specs.RowLabels.{LabelledRow, LabelsChecked, LabelsRows};
 ghost use Rattle.air_report.specs.Checks.{CheckRefuses, CheckedRow, CheckedRows, Fits, HasEntries, IsReport, RowRefuses, RowsRefuse};
 
 use crate::checks::cells::{check_cells, list_cells};
@@ -76,6 +77,8 @@ pub(crate) fn check_row<'a, F: SelfExtension + 'static, A: Air<DebugConstraintBu
         (instance (A.declaration air.now) main.now public_values.now)) }
     ensures refused { IfErr result (RowRefuses
         (instance (A.declaration air.now) main.now public_values.now)) }
+    ensures labels { OnOk result (LabelledRow (A.labels air.now) row builder.old.failures.items
+        builder.new.failures.items) }
 {
     fill_periodic_row(&mut builder.periodic_row, air.periodic_columns(), row)?;
     builder.move_to(Row::new(
@@ -114,6 +117,9 @@ fn check_rows<'a, F: SelfExtension + 'static, A: Air<DebugConstraintBuilder<'a, 
         c.failures.items c.constraints) }
     ensures refused { IfErr result (RowsRefuse max_failures
         (instance (A.declaration air.now) main.now public_values.now)) }
+    ensures labels { IfOk result (λ c. LabelsChecked F.ring F.eq
+        (instance (A.declaration air.now) main.now public_values.now) max_failures
+        (A.labels air.now) c.failures.items c.constraints) }
 {
     let mut builder = DebugConstraintBuilder::at_no_row(alloc);
     'rows: for row in 0..main.height() {
@@ -149,6 +155,9 @@ pub fn check_all_constraints<
         (instance (A.declaration air.now) main.now public_values.now) max_failures) }
     ensures refused { IfErr result (CheckRefuses F.ring F.eq
         (instance (A.declaration air.now) main.now public_values.now) max_failures) }
+    ensures labels { IfOk result (LabelsRows F.ring F.eq
+        (instance (A.declaration air.now) main.now public_values.now) max_failures
+        (A.labels air.now)) }
 {
     let total_rows = main.height();
     check_shapes(

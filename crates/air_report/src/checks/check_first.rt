@@ -2,6 +2,7 @@
 ghost use Rattle.std.specs.Prelude.{◌≡◌, OnOk, IfErr};
 ghost use Rattle.air_report.specs.Checks.{IsSatisfied, IsFirstError};
 ghost use Rattle.air_report.specs.Instances.{instance};
+ghost use Rattle.air_report.specs.RowLabels.{LabelsFailedRow};
 ghost use Rattle.air_report.specs.declared.checks.check_first.CheckError.TheVariants.{Refused};
 
 use crate::checks::cells::{check_cells, first_violated};
@@ -62,6 +63,7 @@ pub fn check_constraints<'a, F: SelfExtension + 'static, A: Air<DebugConstraintB
         (instance (A.declaration air.now) main.now public_values.now)) }
     ensures error { IfErr result (IsFirstError F.ring F.eq
         (instance (A.declaration air.now) main.now public_values.now)) }
+    ensures labels { IfErr result (LabelsFailedRow (A.labels air.now)) }
 {
     let height = main.height();
     check_shapes(

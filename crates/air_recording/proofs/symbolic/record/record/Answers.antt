@@ -24,7 +24,7 @@ pub returns-clause-base : goal.returns-clause-base
 returns-clause-base g c =
     let r = g.F.Field.ring in
     let ts = (g.A.BaseAir.declaration c.args.air.now).constraints in
-    let grew = c.in_ok-eval.ensures.asserted.ok in
+    let grew = c.in_ok-eval.ensures.evaluated.asserted.ok in
     let pool = c.eval.new.builder.pool in
     let numbers = c.eval.new.builder.constraints.base.items in
     let all : numbers ≡ grew.more_base = grew.base ∙ ap (λ l. l.base ++ grew.more_base) c.in_ok-builder.ensures.none in
@@ -41,7 +41,7 @@ returns-clause-ext g c =
     let r = g.F.Field.ring in
     let reads = ext_reads g.EF.ExtensionField.basis in
     let ts = (g.A.BaseAir.declaration c.args.air.now).constraints in
-    let grew = c.in_ok-eval.ensures.asserted.ok in
+    let grew = c.in_ok-eval.ensures.evaluated.asserted.ok in
     let pool = c.eval.new.builder.pool in
     let numbers = c.eval.new.builder.constraints.ext.items in
     let all : numbers ≡ grew.more_ext = grew.ext ∙ ap (λ l. l.ext ++ grew.more_ext) c.in_ok-builder.ensures.none in
@@ -56,7 +56,7 @@ pub returns-clause-base_here : goal.returns-clause-base_here
 returns-clause-base_here g c =
     let r = g.F.Field.ring in
     let ts = base_terms (g.A.BaseAir.declaration c.args.air.now).constraints in
-    let grew = c.in_ok-eval.ensures.asserted.ok in
+    let grew = c.in_ok-eval.ensures.evaluated.asserted.ok in
     let pool = c.eval.new.builder.pool.base in
     let all : c.eval.new.builder.constraints.base.items ≡ grew.more_base = grew.base ∙ ap (λ l. l.base ++ grew.more_base) c.in_ok-builder.ensures.none in
     numbers_here r base_reads pool c.eval.new.builder.constraints.base.items ts (subst (λ l. AllZip (PoolMeans base_reads r pool) l ts) (sym all) grew.each_base)
@@ -66,20 +66,20 @@ returns-clause-ext_here g c =
     let r = g.F.Field.ring in
     let reads = ext_reads g.EF.ExtensionField.basis in
     let ts = ext_terms (g.A.BaseAir.declaration c.args.air.now).constraints in
-    let grew = c.in_ok-eval.ensures.asserted.ok in
+    let grew = c.in_ok-eval.ensures.evaluated.asserted.ok in
     let pool = c.eval.new.builder.pool in
     let all : c.eval.new.builder.constraints.ext.items ≡ grew.more_ext = grew.ext ∙ ap (λ l. l.ext ++ grew.more_ext) c.in_ok-builder.ensures.none in
     numbers_here r reads pool c.eval.new.builder.constraints.ext.items ts (subst (λ l. AllZip (PoolMeans reads r pool) l ts) (sym all) grew.each_ext)
 
 pub returns-clause-kinds : goal.returns-clause-kinds
 returns-clause-kinds g c =
-    let grew = c.in_ok-eval.ensures.asserted.ok in
+    let grew = c.in_ok-eval.ensures.evaluated.asserted.ok in
     grew.kinds ∙ ap (λ l. l.kinds ++ map kind_of (g.A.BaseAir.declaration c.args.air.now).constraints) c.in_ok-builder.ensures.none
 
 pub returns-clause-layout : goal.returns-clause-layout
 returns-clause-layout g c = record {
   fits = c.in_ok-validate_against_air.ensures.fits;
-  there = subst (λ l. NoneMissing (IsMissing (layout_shape l)) (g.A.BaseAir.declaration c.args.air.now).constraints) c.in_ok-builder.ensures.layout c.in_ok-eval.ensures.there;
+  there = subst (λ l. NoneMissing (IsMissing (layout_shape l)) (g.A.BaseAir.declaration c.args.air.now).constraints) c.in_ok-builder.ensures.layout c.in_ok-eval.ensures.evaluated.there;
 }
 
 pub returns-in_err-eval-clause-refused : goal.returns-in_err-eval-clause-refused
@@ -91,7 +91,7 @@ returns-in_err-eval-clause-refused g c =
     ⊎_elim
     (λ (m : e ≡ Memory). subst (refuses c.args.layout) (sym m) tt)
     (λ r. subst (λ l. refuses l e) c.in_ok-builder.ensures.layout r)
-    c.in_err-eval.ensures.asserted.refused in
+    c.in_err-eval.ensures.evaluated.asserted.refused in
     let p = err_from_is_err_and c.from_residual-in_err-eval.result c.from_residual-in_err-eval.ensures.1 in
     rw (p.1, p.2) (inr (c.in_ok-validate_against_air.ensures.fits, refused))
 

@@ -6,6 +6,7 @@ use Rattle.air_report.specs.Instances.{instance}
 use Rattle.air_report.specs.Shapes.{table_height}
 use Rattle.air_report.proofs.GivenUp.{error_is, instance_fits, instance_fault, cells_refused}
 use Rattle.air_report.proofs.Reports.{listed_after}
+use Rattle.air_report.proofs.RowsLabelled.{labels_rows}
 use Rattle.air_report.proofs.checks.check.check_all_constraints.Goals as goal
 
 pub returns-in_err-check_shapes-clause-report : goal.returns-in_err-check_shapes-clause-report
@@ -76,3 +77,29 @@ returns-clause-report g c =
       rows = c.height-total_rows.ensures;
       count = checked.counted;
     }
+
+pub returns-in_err-check_shapes-clause-labels : goal.returns-in_err-check_shapes-clause-labels
+returns-in_err-check_shapes-clause-labels g c =
+    let p = err_from_is_err_and c.from_residual.result c.from_residual.ensures.1 in
+    rw p.1 tt
+
+pub returns-in_err-checked-clause-labels : goal.returns-in_err-checked-clause-labels
+returns-in_err-checked-clause-labels g c =
+    let p = err_from_is_err_and c.from_residual-in_err-checked.result c.from_residual-in_err-checked.ensures.1 in
+    rw p.1 tt
+
+pub returns-in_err-check_cells-clause-labels : goal.returns-in_err-check_cells-clause-labels
+returns-in_err-check_cells-clause-labels g c =
+    let p = err_from_is_err_and c.from_residual-in_err-check_cells.result c.from_residual-in_err-check_cells.ensures.1 in
+    rw p.1 tt
+
+pub returns-in_err-list_cells-clause-labels : goal.returns-in_err-list_cells-clause-labels
+returns-in_err-list_cells-clause-labels g c =
+    let p = err_from_is_err_and c.from_residual-in_err-list_cells.result c.from_residual-in_err-list_cells.ensures.1 in
+    rw p.1 tt
+
+pub returns-clause-labels : goal.returns-clause-labels
+returns-clause-labels g c =
+    let all = instance (g.A.BaseAir.declaration c.args.air.now) c.args.main.now c.args.public_values.now in
+    labels_rows g.F.Field.ring g.F.PartialEq.eq all c.args.max_failures (g.A.Air.labels c.args.air.now) _ _ _
+    c.in_ok-checked.ensures.labels c.in_ok-list_cells.ensures.listed.failures

@@ -16,7 +16,7 @@ returns-clause-checked g c =
     rw (← c.periodic_columns.ensures) c.in_ok-fill_periodic_row.ensures.filled in
     let same = row_at-given all c.new.ensures c.move_to.ensures c.preprocessed_trace.ensures periodic g.F.Field.ring c.requires.fits
     c.row_pair.ensures.top c.row_pair.ensures.bottom c.table_pair.ensures.top c.table_pair.ensures.bottom (c.at.ensures ∙ ap (row_selectors g.F.Field.ring c.args.row) c.height.ensures) in
-    on_ok_weaker c.eval.result (λ grew. checked_row all c.new.ensures c.move_to.ensures g.met.F.SelfExtension.over_itself same refl grew) c.eval.ensures.asserted.ok
+    on_ok_weaker c.eval.result (λ grew. checked_row all c.new.ensures c.move_to.ensures g.met.F.SelfExtension.over_itself same refl grew) c.eval.ensures.evaluated.asserted.ok
 
 pub returns-clause-there : goal.returns-clause-there
 returns-clause-there g c =
@@ -26,7 +26,7 @@ returns-clause-there g c =
     rw (← c.periodic_columns.ensures) c.in_ok-fill_periodic_row.ensures.filled in
     let same = shape-given all c.new.ensures c.move_to.ensures c.preprocessed_trace.ensures periodic
     c.row_pair.ensures.width c.table_pair.ensures.width in
-    subst (λ s. OnOk c.eval.result (NoneMissing (IsMissing s) all.air.constraints)) same c.eval.ensures.there
+    subst (λ s. OnOk c.eval.result (NoneMissing (IsMissing s) all.air.constraints)) same c.eval.ensures.evaluated.there
 
 pub returns-in_err-fill_periodic_row-clause-refused : goal.returns-in_err-fill_periodic_row-clause-refused
 returns-in_err-fill_periodic_row-clause-refused g c =
@@ -43,4 +43,16 @@ returns-clause-refused g c =
     let periodic : map Some c.fill_periodic_row.new.values.items ≡ map (column_at c.args.row) columns =
     rw (← c.periodic_columns.ensures) c.in_ok-fill_periodic_row.ensures.filled in
     IfErr-weaker c.eval.result _ _ (row_refusal all c.new.ensures c.move_to.ensures c.preprocessed_trace.ensures periodic
-    c.row_pair.ensures.width c.table_pair.ensures.width) c.eval.ensures.asserted.refused
+    c.row_pair.ensures.width c.table_pair.ensures.width) c.eval.ensures.evaluated.asserted.refused
+
+pub returns-clause-labels : goal.returns-clause-labels
+returns-clause-labels g c =
+    on_ok_weaker c.eval.result (λ said. record {
+      before = c.move_to.new.self;
+      after = c.eval.new.builder;
+      at = ap (λ r. r.index) c.move_to.ensures.row ∙ c.new.ensures.index;
+      start = c.move_to.ensures.constraint_index;
+      had = c.move_to.ensures.failures;
+      has = refl;
+      said = said;
+    }) c.eval.ensures.labelled

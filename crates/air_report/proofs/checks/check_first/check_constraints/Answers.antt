@@ -5,6 +5,7 @@ use Rattle.air_report.specs.Cells.{CellsFit, IsCellFault}
 use Rattle.air_report.specs.Checks.{IsFirstError}
 use Rattle.air_report.specs.Instances.{instance, instance_trace, row_count}
 use Rattle.air_report.specs.Report.{failure_place, report_of}
+use Rattle.air_report.specs.RowLabels.{LabelledRow, LabelsFailedRow}
 use Rattle.air_report.specs.Shapes.{table_height}
 use Rattle.air_report.proofs.GivenUp.{error_is, instance_fits, instance_fault}
 use Rattle.air_report.proofs.Reports.{checked_more}
@@ -101,3 +102,21 @@ rows-init g c = record {
   none = refl;
   there = λ h. absurd (omega (arith, h));
 }
+
+pub returns-then-has_failures-clause-labels : goal.returns-then-has_failures-clause-labels
+returns-then-has_failures-clause-labels g c =
+    let says = g.A.Air.labels c.args.air.now in
+    subst (λ v. LabelledRow says c.rows.row [] v.items) (sym c.into_failures.ensures)
+    (subst (λ fs. LabelledRow says c.rows.row fs c.check_row.new.builder.failures.items) c.rows.invariant.empty c.in_ok-check_row.ensures.labels)
+
+pub returns-in_err-check_row-clause-labels : goal.returns-in_err-check_row-clause-labels
+returns-in_err-check_row-clause-labels g c =
+    error_is c.from_residual-in_err-check_row.result c.from_residual-in_err-check_row.ensures.1 (LabelsFailedRow (g.A.Air.labels c.args.air.now)) tt
+
+pub returns-in_err-check_shapes-clause-labels : goal.returns-in_err-check_shapes-clause-labels
+returns-in_err-check_shapes-clause-labels g c =
+    error_is c.from_residual.result c.from_residual.ensures.1 (LabelsFailedRow (g.A.Air.labels c.args.air.now)) tt
+
+pub returns-in_err-check_cells-clause-labels : goal.returns-in_err-check_cells-clause-labels
+returns-in_err-check_cells-clause-labels g c =
+    error_is c.from_residual-in_err-check_cells.result c.from_residual-in_err-check_cells.ensures.1 (LabelsFailedRow (g.A.Air.labels c.args.air.now)) tt
