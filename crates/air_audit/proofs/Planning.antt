@@ -54,10 +54,12 @@ one_step_more l ns numbers places k id steps new s n pushed long before in_numbe
     makes m m_is =
         let one : Some n ≡ Some m = sym is.node ∙ ap (slice_get ns) (sym number) ∙ m_is.node in
         let same : n ≡ m = cc in
-        subst (StepMakes l (IsPlaceOf numbers k) s) same
-        (made.0, zip_placed (λ p i. p ≡ get_or places i 0) (IsPlaceOf numbers k) (λ i. IsPlaceOf numbers k (get_or places i 0) i)
-        (λ p i r e. subst (λ q. IsPlaceOf numbers k q i) (sym e) r)
-        (step_places s) (operands n) (placed n (subst (λ v. IsNode l ns v n) (sym number) is)) made.1)
+        subst (StepMakes l (IsPlaceOf numbers k) s) same (
+          made.0,
+          zip_placed (λ p i. p ≡ get_or places i 0) (IsPlaceOf numbers k) (λ i. IsPlaceOf numbers k (get_or places i 0) i)
+              (λ p i r e. subst (λ q. IsPlaceOf numbers k q i) (sym e) r)
+              (step_places s) (operands n) (placed n (subst (λ v. IsNode l ns v n) (sym number) is)) made.1,
+        )
 
 eqb_same : (i x : ℕ) → i ≡ x → eqb i x ≡ true
 eqb_same i x e = grind (arith, e)

@@ -12,16 +12,10 @@ use thiserror::Error;
 pub enum ShapeError {
     /// The trace's number of columns isn't the AIR's.
     #[error("the trace has {trace} columns, the AIR declares {air}")]
-    MainWidth {
-        trace: usize,
-        air: usize,
-    },
+    MainWidth { trace: usize, air: usize },
     /// The number of public values isn't the AIR's.
     #[error("{given} public values are given, the AIR declares {air}")]
-    PublicValues {
-        given: usize,
-        air: usize,
-    },
+    PublicValues { given: usize, air: usize },
 }
 
 /// Compares the trace's number of columns, then the number of public values, with what the AIR declares. The error names

@@ -29,8 +29,7 @@ pub trait Constraint<AB: AirBuilder> {
 
     /// What it says of their labels: a relation of the builders before and after. The two functions are as above. By
     /// default it says nothing.
-    ghost labels: { Self → (Term AB.F → Term AB.F) → (Term AB.F → Term AB.F) → AB → AB → Type 0
-        } = { λ _ _ _ _ _. ⊤ };
+    ghost labels: { Self → (Term AB.F → Term AB.F) → (Term AB.F → Term AB.F) → AB → AB → Type 0 } = { λ _ _ _ _ _. ⊤ };
 
     /// Asserts them under the condition.
     fn assert_under<K: Condition<AB>>(&self, builder: &mut AB, condition: &K) -> AirResult
