@@ -1,7 +1,9 @@
 -- Lists that are pushed one after another.
-use Rattle.std.proofs.Common.{◌≡◌, ◌+◌, ◌/◌, ◌%◌, ℕ, suc, List, [], ◌∷◌, ◌++◌, map, Result, Ok, Err, OnOk, sym, ◌∙◌, ap, append_assoc, arith}
+use Rattle.std.proofs.Common.{◌≡◌, ◌+◌, ◌/◌, ◌%◌, ◌<◌, ℕ, zero, suc, eqb, List, [], ◌∷◌, ◌++◌, map, Result, Ok, Err, OnOk, sym, ◌∙◌, ap, append_assoc, arith}
+use Rattle.std.specs.Bool.{if◌then◌else◌}
 use Rattle.std.proofs.lemmas.List.{append-nil}
 use Rattle.air_field.specs.Ring.{CommRing, image}
+use Rattle.air_field.specs.laws.Images.{image-zero, image-one}
 use Rattle.air_author.specs.Constraints.{asserts_of_first}
 use Rattle.air_gadgets.specs.Bits.{digits_of}
 
@@ -9,6 +11,15 @@ module _ {F : Type 0} (R : CommRing F) where
   -- the list so far and the remaining bits
   abbrev pub with_bits : List F → ℕ → ℕ → List F
   with_bits xs k n = xs ++ map (image R) (digits_of 2 k n)
+
+  image-below_two : (m : ℕ) → m < 2 → (if eqb m 1 then R.one else R.zero) ≡ image R m
+  image-below_two zero low = sym (image-zero R)
+  image-below_two (suc zero) low = sym (image-one R)
+  image-below_two (suc (suc m)) low = absurd (omega (arith, low))
+
+  -- one or zero, by the test of the lowest bit
+  pub image-bit : (n : ℕ) → (if eqb (n % 2) 1 then R.one else R.zero) ≡ image R (n % 2)
+  image-bit n = image-below_two (n % 2) (omega arith)
 
   -- one more bit is pushed
   pub bit_pushed : (xs : List F) (k j n : ℕ) → k ≡ suc j → with_bits (xs ++ image R (n % 2) ∷ []) j (n / 2) ≡ with_bits xs k n
