@@ -66,6 +66,7 @@ fn air_name(error: AirError) -> &'static str
         AirError::ForeignExpression => "ForeignExpression",
         AirError::IndexPastTotal { .. } => "IndexPastTotal",
         AirError::PreprocessedHeight { .. } => "PreprocessedHeight",
+        AirError::PermutationHeight { .. } => "PermutationHeight",
         AirError::PeriodNotPowerOfTwo { .. } => "PeriodNotPowerOfTwo",
         AirError::PeriodDoesNotDivide { .. } => "PeriodDoesNotDivide",
         AirError::Boundary(_) => "Boundary",

@@ -7,3 +7,4 @@ pub mod FailureLists
 pub mod OwnExtension
 pub mod EmptyLists
 pub mod GivenUp
+pub mod PermutedRowsAt

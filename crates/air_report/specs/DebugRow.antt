@@ -44,17 +44,21 @@ pub record IsRow {F : Type 0} (i : ℕ) (main_rows table_rows : ViewPair F) (pub
   pub public_values : row.public_values.now ≡ public
   pub selectors : row.selectors ≡ selected
 
--- The builder is at the row, with this periodic row and without permutation data. It has counted nothing, and has the
+-- The builder is at the row, with this periodic row and this permutation data. It has counted nothing, and has the
 -- failures of the rows before.
-pub record StandsAt {F E : Type 0} (at : Row F) (periodic : Vec F Global)
-    (before : List ConstraintFailure) (b : DebugConstraintBuilder F E) : Type 0 where
+pub record IsMovedTo {F E : Type 0} (at : Row F) (periodic : Vec F Global) (others : Option (ViewPair E))
+    (challenges exposed : List E) (before : List ConstraintFailure) (b : DebugConstraintBuilder F E) : Type 0 where
   pub row : b.row ≡ at
   pub periodic_row : b.periodic_row ≡ periodic
-  pub permutation : b.permutation ≡ None
-  pub permutation_challenges : b.permutation_challenges.now ≡ []
-  pub permutation_values : b.permutation_values.now ≡ []
+  pub permutation : b.permutation ≡ others
+  pub permutation_challenges : b.permutation_challenges.now ≡ challenges
+  pub permutation_values : b.permutation_values.now ≡ exposed
   pub constraint_index : b.constraint_index ≡ 0
   pub failures : b.failures.items ≡ before
+
+-- the same without permutation data
+abbrev pub StandsAt : {F E : Type 0} → Row F → Vec F Global → List ConstraintFailure → DebugConstraintBuilder F E → Type 0
+StandsAt at periodic before b = IsMovedTo at periodic None [] [] before b
 
 -- The builder is at the row of this index, and holds the given pairs of rows, values and permutation data. It has counted
 -- nothing, and has the failures of the rows before.

@@ -5,5 +5,6 @@ pub mod DebugValues
 pub mod Plain
 pub mod Report
 pub mod RowLabels
+pub mod Over
 pub mod VanishingReports
 pub mod VanishingChecks

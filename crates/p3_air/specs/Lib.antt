@@ -136,6 +136,8 @@ pub use Rattle.air_report.specs.Instances
 pub use Rattle.air_report.specs.Shapes
 pub use Rattle.air_report.specs.Cells
 pub use Rattle.air_report.specs.Checks
+pub use Rattle.air_report.specs.ReportBy
+pub use Rattle.air_report.specs.Permuted
 pub use Rattle.air_report.specs.Report
 pub use Rattle.air_report.specs.RowRefusals
 pub use Rattle.air_report.specs.Debug

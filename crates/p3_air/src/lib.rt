@@ -31,6 +31,7 @@
 //! | write one that declares its list | [`author`], [`utils`], [`BaseAir`] | `eval` asserts just the declared list on each builder |
 //! | make a trace | [`trace_of_rows`], [`TraceRows`], [`with_bits`], [`word_with_bits`] | the rows and numbers that were given |
 //! | check it | [`check_constraints`], [`check_all_constraints`] | the first fault; each row and constraint not zero |
+//! | check it with a permutation trace | [`check_all_constraints_with_permutation`] | each row and constraint not zero, the extension's too |
 //! | check a row | [`check_row_with_permutation`] | each constraint that isn't zero there, the extension's too |
 //! | record an AIR | [`get_all_symbolic_constraints`] | of each constraint its polynomial, at no greater degree |
 //! | size the quotient | [`get_max_constraint_degree`] | the degree of what is recorded, as the domain counts |
@@ -142,6 +143,7 @@ pub use air_audit::audit_air_with_cap;
 pub use air_audit::author;
 pub use air_audit::boundary;
 pub use air_audit::check_all_constraints;
+pub use air_audit::check_all_constraints_with_permutation;
 pub use air_audit::check_constraints;
 pub use air_audit::check_row_with_permutation;
 pub use air_audit::constraint_degree_from_poly_degree;

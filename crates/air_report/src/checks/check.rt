@@ -16,13 +16,18 @@ use crate::debug::failure::ConstraintFailure;
 use crate::debug::row::Row;
 use air_builder::{Air, AirError};
 use air_core::{Selectors, fill_periodic_row};
-use air_field::{Field, RowMajorMatrix, RowMajorMatrixView, SelfExtension, ViewPair};
+use air_field::{
+    ExtensionField, Field, RowMajorMatrix, RowMajorMatrixView, SelfExtension, ViewPair,
+};
 use std::alloc::Global;
 
 /// The views of a row of the preprocessed trace and of the next one around the end; without a preprocessed trace they
 /// have no columns.
 #[inline(always)]
-fn table_pair<'a, F: Field>(table: Option<&'a RowMajorMatrix<F>>, row: usize) -> ViewPair<'a, F>
+pub(crate) fn table_pair<'a, F: Field>(
+    table: Option<&'a RowMajorMatrix<F>>,
+    row: usize,
+) -> ViewPair<'a, F>
     requires { IfSome table (λ t. row < length t.now.rows) }
     ensures top { result.top.values.now ≡ row_or_none
         (slice_get (table_grid (option_copied table.entry)).rows row) }
@@ -48,7 +53,9 @@ pub(crate) struct RowOutcome {
 }
 
 /// Ends a check: takes the failures and the last row's counter from the builder.
-fn outcome_of<F: SelfExtension>(builder: DebugConstraintBuilder<'_, F, F>) -> RowOutcome
+pub(crate) fn outcome_of<F: Field, EF: ExtensionField<F>>(
+    builder: DebugConstraintBuilder<'_, F, EF>,
+) -> RowOutcome
     ensures failures { result.failures ≡ builder.entry.failures }
     ensures constraints { result.constraints ≡ builder.entry.constraint_index }
 {

@@ -1,8 +1,9 @@
 use Rattle.std.proofs.Common.{ap, subst, inl, inr, ◌∙◌}
 use Rattle.std.proofs.lemmas.Result.{err_from_is_err_and}
 use Rattle.air_report.specs.Cells.{CellsFit, IsCellFault}
-use Rattle.air_report.specs.Checks.{CheckRefuses}
-use Rattle.air_report.specs.Instances.{instance}
+use Rattle.air_report.specs.Checks.{CheckRefuses, TraceMissing}
+use Rattle.air_report.specs.Instances.{instance, instance_trace}
+use Rattle.air_report.specs.Report.{zero_at}
 use Rattle.air_report.specs.Shapes.{table_height}
 use Rattle.air_report.proofs.GivenUp.{error_is, instance_fits, instance_fault, cells_refused}
 use Rattle.air_report.proofs.Reports.{listed_after}
@@ -60,7 +61,8 @@ returns-in_err-list_cells-clause-refused g c =
     let checked = c.in_ok-checked.ensures.checked in
     let cells = subst (λ cs. CellsFit all.main all.public cs) c.public_boundary_io-cells.ensures c.in_ok-check_cells.ensures.fit in
     error_is c.from_residual-in_err-list_cells.result c.from_residual-in_err-list_cells.ensures.1 (CheckRefuses g.F.Field.ring g.F.PartialEq.eq all c.args.max_failures)
-    (cells_refused g.F.Field.ring g.F.PartialEq.eq all c.args.max_failures checked.shown c.in_ok-checked.checked.failures.items c.in_ok-checked.checked.constraints _ c.in_err-list_cells.field-0.0 fits checked.ran cells checked.places checked.counted c.public_boundary_io-cells.ensures c.in_err-list_cells.ensures.refused)
+    (inr (fits, cells_refused g.F.Field.ring g.F.PartialEq.eq (zero_at g.F.Field.ring g.F.PartialEq.eq (instance_trace all)) (TraceMissing all) all c.args.max_failures checked.shown c.in_ok-checked.checked.failures.items c.in_ok-checked.checked.constraints _
+    c.in_err-list_cells.field-0.0 checked.ran cells checked.places checked.counted c.public_boundary_io-cells.ensures c.in_err-list_cells.ensures.refused))
 
 pub returns-clause-report : goal.returns-clause-report
 returns-clause-report g c =
@@ -73,7 +75,7 @@ returns-clause-report g c =
       cells = subst (λ cs. CellsFit all.main all.public cs) c.public_boundary_io-cells.ensures c.in_ok-check_cells.ensures.fit;
       of_rows = c.in_ok-checked.checked.failures.items;
       places = checked.places;
-      lists = listed_after g.F.Field.ring g.F.PartialEq.eq all c.args.max_failures checked.shown c.in_ok-checked.checked.failures.items _ c.in_ok-checked.checked.constraints _ checked.places checked.counted c.public_boundary_io-cells.ensures c.in_ok-list_cells.ensures.listed;
+      lists = listed_after g.F.Field.ring g.F.PartialEq.eq (zero_at g.F.Field.ring g.F.PartialEq.eq (instance_trace all)) all c.args.max_failures checked.shown c.in_ok-checked.checked.failures.items _ c.in_ok-checked.checked.constraints _ checked.places checked.counted c.public_boundary_io-cells.ensures c.in_ok-list_cells.ensures.listed;
       rows = c.height-total_rows.ensures;
       count = checked.counted;
     }

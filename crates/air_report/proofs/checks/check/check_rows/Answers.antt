@@ -4,7 +4,7 @@ use borrow.Author.Count.{below_more, below_none}
 use Rattle.std.proofs.lemmas.Result.{err_from_is_err_and}
 use Rattle.air_report.specs.Checks.{RowsRefuse}
 use Rattle.air_report.specs.Instances.{instance, instance_trace, row_count}
-use Rattle.air_report.specs.Report.{failure_place, report_of, IsReached}
+use Rattle.air_report.specs.Report.{failure_place, report_of, zero_at, IsReached}
 use Rattle.air_report.proofs.GivenUp.{error_is}
 use Rattle.air_report.specs.RowLabels.{LabelledRows}
 use Rattle.air_report.proofs.RowsLabelled.{rows_more}
@@ -85,7 +85,7 @@ rows-preserved g c =
     let len : length c.rows.builder.failures.items ≡ length (report_of r eq trace ts row) = sym (length-map c.rows.builder.failures.items failure_place) ∙ ap length inv.places in
     let here : IsReached cap (length (report_of r eq trace ts row)) → ⊥ = λ h. open_cap (subst (λ n. IsReached cap n) (sym len) h) in
     record {
-      places = checked_more r eq all row _ _ _ checked inv.places;
+      places = checked_more (zero_at r eq trace) ts row _ _ _ checked inv.places;
       count = checked.constraints ∙ count_shown-more ts row;
       least = below_more (λ k. IsReached cap (length (report_of r eq trace ts k)) → ⊥) row inv.least here;
       there = λ h. c.in_ok-check_row.ensures.there;

@@ -4,7 +4,7 @@ use Rattle.std.proofs.lemmas.Result.{err_from_is_err_and}
 use Rattle.air_report.specs.Cells.{CellsFit, IsCellFault}
 use Rattle.air_report.specs.Checks.{IsFirstError}
 use Rattle.air_report.specs.Instances.{instance, instance_trace, row_count}
-use Rattle.air_report.specs.Report.{failure_place, report_of}
+use Rattle.air_report.specs.Report.{failure_place, report_of, zero_at}
 use Rattle.air_report.specs.RowLabels.{LabelledRow, LabelsFailedRow}
 use Rattle.air_report.specs.Shapes.{table_height}
 use Rattle.air_report.proofs.GivenUp.{error_is, instance_fits, instance_fault}
@@ -22,7 +22,7 @@ returns-then-has_failures-clause-error g c =
       within = omega arith;
       before = c.rows.invariant.none;
       places = ap (λ v. map failure_place v.items) c.into_failures.ensures
-          ∙ checked_more r eq all c.rows.row _ _ _ c.in_ok-check_row.ensures.checked (ap (map failure_place) c.rows.invariant.empty ∙ sym c.rows.invariant.none);
+          ∙ checked_more (zero_at r eq (instance_trace all)) all.air.constraints c.rows.row _ _ _ c.in_ok-check_row.ensures.checked (ap (map failure_place) c.rows.invariant.empty ∙ sym c.rows.invariant.none);
       some = search rules;
       there = c.in_ok-check_row.ensures.there;
     }
@@ -33,7 +33,7 @@ rows-preserved g c =
     let eq = g.F.PartialEq.eq in
     let all = instance (g.A.BaseAir.declaration c.args.air.now) c.args.main.now c.args.public_values.now in
     let places : map failure_place c.check_row.new.builder.failures.items ≡ report_of r eq (instance_trace all) all.air.constraints (c.rows.row + 1) =
-    checked_more r eq all c.rows.row _ _ _ c.in_ok-check_row.ensures.checked (ap (map failure_place) c.rows.invariant.empty ∙ sym c.rows.invariant.none) in
+    checked_more (zero_at r eq (instance_trace all)) all.air.constraints c.rows.row _ _ _ c.in_ok-check_row.ensures.checked (ap (map failure_place) c.rows.invariant.empty ∙ sym c.rows.invariant.none) in
     let empty : c.check_row.new.builder.failures.items ≡ [] = grind (arith, common_steps) in
     record {
       none = sym places ∙ ap (map failure_place) empty;
