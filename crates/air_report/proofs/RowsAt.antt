@@ -85,8 +85,19 @@ module _ {F E : Type 0} (g : Instance F) {i : ℕ} {pair table : ViewPair F} {se
     holds : debug_row b ≡ row_data i pair.top.values.now pair.bottom.values.now
         table.top.values.now table.bottom.values.now periodic.items g.public selected.is_first_row selected.is_last_row selected.is_transition
         (is_some others) (permutation_data others challenges exposed)
-    holds = rw (at.row, made.index, made.main, made.preprocessed, made.preprocessed_next, made.public_values, made.selectors, at.periodic_row,
-        at.permutation, at.permutation_challenges, at.permutation_values)
+    holds = rw (
+      at.row,
+      made.index,
+      made.main,
+      made.preprocessed,
+      made.preprocessed_next,
+      made.public_values,
+      made.selectors,
+      at.periodic_row,
+      at.permutation,
+      at.permutation_challenges,
+      at.permutation_values,
+    )
 
     -- the builder holds the values of its row of the trace
     pub row_at-given : (r : CommRing F) → Fits g → slice_get g.main.rows i ≡ Some pair.top.values.now

@@ -45,11 +45,7 @@ impl<A: SymLeaf> ExprPool<A> {
     }
 
     // The roots' degrees, read from a table of all numbers.
-    fn degrees_from(
-        &self,
-        table: &DegreeTable,
-        roots: &[ExprId<A>],
-    ) -> Result<Degrees, RingError>
+    fn degrees_from(&self, table: &DegreeTable, roots: &[ExprId<A>]) -> Result<Degrees, RingError>
         requires all_in { All (λ x. x < length table.now.degrees.items) roots.now }
         ensures values { IfOk result (λ d. (degree : ℕ → ℕ) → AreDegrees degree
             (length table.now.degrees.items) table.now.degrees.items →

@@ -16,9 +16,10 @@ assert_both_zero-requires-clause-usable g c =
     let ring = g.met.AB.Ring.Algebra.laws in
     let laws = g.met.AB.AirBuilder.laws in
     let made = c.in_ok-made-made_whole.ensures in
-    λ b k.
-    ((second_lasts ring laws made b k, first_lasts ring laws made b k),
-    (c.requires.usable b (laws.kept_joined _ _ _ (laws.by_growth _ _ _ made.keeps) k)).1)
+    λ b k. (
+      (second_lasts ring laws made b k, first_lasts ring laws made b k),
+      (c.requires.usable b (laws.kept_joined _ _ _ (laws.by_growth _ _ _ made.keeps) k)).1,
+    )
 
 pub returns : goal.returns
 returns g c = both_then g.met.AB.Ring.Algebra.laws g.met.AB.AirBuilder.laws c.in_ok-made-made_whole.ensures _ c.assert_both_zero.result _ c.assert_both_zero.ensures

@@ -8,9 +8,10 @@ returns-in_err-made g c = first_gives_up c.from_residual.ensures.1 c.in_err-made
 pub make-requires-2-clause-usable : goal.make-requires-2-clause-usable
 make-requires-2-clause-usable g c =
     let laws = g.met.AB.AirBuilder.laws in
-    λ b k.
-    (made_lasts g.met.AB.Ring.Algebra.laws laws _ _ _ _ c.in_ok-made.ensures b k,
-    (c.requires.usable b (laws.kept_joined _ _ _ (laws.by_growth _ _ _ c.in_ok-made.ensures.keeps) k)).1)
+    λ b k. (
+      made_lasts g.met.AB.Ring.Algebra.laws laws _ _ _ _ c.in_ok-made.ensures b k,
+      (c.requires.usable b (laws.kept_joined _ _ _ (laws.by_growth _ _ _ c.in_ok-made.ensures.keeps) k)).1,
+    )
 
 pub returns-in_err-whole : goal.returns-in_err-whole
 returns-in_err-whole g c =

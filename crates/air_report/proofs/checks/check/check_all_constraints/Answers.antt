@@ -61,8 +61,11 @@ returns-in_err-list_cells-clause-refused g c =
     let checked = c.in_ok-checked.ensures.checked in
     let cells = subst (λ cs. CellsFit all.main all.public cs) c.public_boundary_io-cells.ensures c.in_ok-check_cells.ensures.fit in
     error_is c.from_residual-in_err-list_cells.result c.from_residual-in_err-list_cells.ensures.1 (CheckRefuses g.F.Field.ring g.F.PartialEq.eq all c.args.max_failures)
-    (inr (fits, cells_refused g.F.Field.ring g.F.PartialEq.eq (zero_at g.F.Field.ring g.F.PartialEq.eq (instance_trace all)) (TraceMissing all) all c.args.max_failures checked.shown c.in_ok-checked.checked.failures.items c.in_ok-checked.checked.constraints _
-    c.in_err-list_cells.field-0.0 checked.ran cells checked.places checked.counted c.public_boundary_io-cells.ensures c.in_err-list_cells.ensures.refused))
+    (inr (
+      fits,
+      cells_refused g.F.Field.ring g.F.PartialEq.eq (zero_at g.F.Field.ring g.F.PartialEq.eq (instance_trace all)) (TraceMissing all) all c.args.max_failures checked.shown c.in_ok-checked.checked.failures.items c.in_ok-checked.checked.constraints _
+          c.in_err-list_cells.field-0.0 checked.ran cells checked.places checked.counted c.public_boundary_io-cells.ensures c.in_err-list_cells.ensures.refused,
+    ))
 
 pub returns-clause-report : goal.returns-clause-report
 returns-clause-report g c =
