@@ -205,10 +205,9 @@ LabelsFrom n cells report = map (λ f. option_map (λ s. string_bytes s) f.label
 
 -- ---- The inferred degree
 
--- A domain over a trace: the weight of each leaf in the degree of a term, the greatest degree of the leaf's polynomial,
--- and the greatest degree that degree d allows a constraint's polynomial.
+-- A domain over a trace: the greatest degree of each leaf's polynomial, and the greatest degree that degree d allows a
+-- constraint's polynomial.
 pub record Domain : Type 0 where
-  pub weight : Leaf → ℕ
   pub leaf_degree : Leaf → ℕ
   pub bound : ℕ → ℕ
 
@@ -216,12 +215,10 @@ pub record Domain : Type 0 where
 -- over the rows; for w from 1 it counts as w columns, and degrees are counted in columns.
 abbrev pub domain : {F : Type 0} → ℕ → Instance F → Domain
 domain zero x = record {
-  weight = trace_weight (row_count x) (periods_of x.air.periodic);
   leaf_degree = trace_weight (row_count x) (periods_of x.air.periodic);
   bound = λ d. d * (row_count x - 1) + 1;
 }
 domain (suc w) x = record {
-  weight = transition_weight (suc w);
   leaf_degree = λ l. transition_weight (suc w) l * (row_count x - 1);
   bound = λ d. d * (row_count x - 1);
 }

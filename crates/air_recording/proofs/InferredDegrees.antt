@@ -50,9 +50,12 @@ quotient_past : (p n : ℕ) → n < 2 ^ 64 → 2 ^ 128 - 1 ≤ p → 2 ^ 64 ≤ 
 quotient_past p n rows past =
     ⊎_elim
     (λ (lt : quotient_degree p n < 2 ^ 64).
-    absurd (omega (arith, rows, past, quotient_reaches p n, mul-le-mul_right {m = quotient_degree p n} {n = 2 ^ 64 - 1} (max (n - 1) 1) (omega (arith, lt)))))
+    absurd (too_small (quotient_degree p n) (max (n - 1) 1) lt (omega (arith, rows)) (quotient_reaches p n)))
     (λ (ge : 2 ^ 64 ≤ quotient_degree p n). ge)
     (cases_lt (quotient_degree p n) (2 ^ 64))
+  where
+    too_small : (q m : ℕ) → q < 2 ^ 64 → m < 2 ^ 64 → p ≤ q * m + 1 → ⊥
+    too_small q m h k b = omega (arith, past, h, k, b, mul-le-mul_right {m = q} {n = 2 ^ 64 - 1} m (omega (arith, h)))
 
 -- one that fits is the degree's own
 quotient_fits : (p n : ℕ) → n < 2 ^ 64 → quotient_degree (capped p) n < 2 ^ 64 → quotient_degree (capped p) n ≡ quotient_degree p n

@@ -53,6 +53,9 @@ module _ (n : ℕ) (some : 1 ≤ n) where
   greatest_within [] = omega arith
   greatest_within (t ∷ ts) = greater_within (degree_by cached_weight t) (greatest_degree cached_weight ts) (degree_by (trace_weight n []) t) (greatest_degree (trace_weight n []) ts) (cached_within t) (greatest_within ts)
 
+greater : (p a b m : ℕ) → p ≤ a * m + 1 → a ≤ b → p ≤ b * m + 1
+greater p a b m h le = omega (arith, h, mul-le-mul_right {m = a} {n = b} m le)
+
 -- from two rows on the divisor is n - 1
 by_rows : (n e p : ℕ) → 3 ≤ n → p ≤ e * (n - 1) + 1 → p ≤ e * max (n - 1) 1 + 1
 by_rows n e p h b =
@@ -69,7 +72,7 @@ inferred_bounds n periods ts h =
     reached n [] ts =
         let p = greatest_degree (trace_weight n []) ts in
         let q = quotient_degree p n in
-        omega (arith, quotient_reaches p n, mul-le-mul_right (max (n - 1) 1) (le-max_left q (greatest_degree cached_weight ts)))
+        greater p q (max q (greatest_degree cached_weight ts)) (max (n - 1) 1) (quotient_reaches p n) (le-max_left q (greatest_degree cached_weight ts))
     reached n (x ∷ periods) ts = quotient_reaches (greatest_degree (trace_weight n (x ∷ periods)) ts) n
 
 -- For three rows or more it is the least bound.

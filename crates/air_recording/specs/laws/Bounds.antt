@@ -14,28 +14,38 @@ use Rattle.air_recording.specs.Bounds.{leaf_degree, polynomial_bound, DegreesWit
 quotient_of : (k n : ℕ) → quotient_degree (suc k) n ≡ div_ceil k (max (n - 1) 1)
 quotient_of k n = Prim.grind arith
 
--- d is the quotient degree of p: p ≤ d (n - 1) + 1
+-- for the quotient degree d of p: p ≤ d (n - 1) + 1
 pub quotient_reaches : (p n : ℕ) → p ≤ quotient_degree p n * max (n - 1) 1 + 1
 quotient_reaches zero n = omega arith
 quotient_reaches (suc k) n =
-    let b = div_ceil_times k (max (n - 1) 1) (omega arith) in
-    subst (λ x. suc k ≤ x * max (n - 1) 1 + 1) (sym (quotient_of k n)) (omega (arith, b.0))
+    let m = max (n - 1) 1 in
+    subst (λ x. suc k ≤ x * m + 1) (sym (quotient_of k n)) (one_more (div_ceil k m) m (div_ceil_times k m (omega arith)).0)
+  where
+    one_more : (q m : ℕ) → k ≤ q * m → suc k ≤ q * m + 1
+    one_more q m h = omega (arith, h)
 
--- no smaller number is
+-- no smaller number is one
 pub quotient_least : (p n e : ℕ) → p ≤ e * max (n - 1) 1 + 1 → quotient_degree p n ≤ e
 quotient_least zero n e b = omega arith
 quotient_least (suc k) n e b =
     let m = max (n - 1) 1 in
-    let c = div_ceil_times k m (omega arith) in
-    let lt : div_ceil k m < suc e = lt_of_mul-lt-mul_right m (omega (arith, c.1, b, suc-mul e m)) in
-    subst (λ x. x ≤ e) (sym (quotient_of k n)) (omega (arith, lt))
+    subst (λ x. x ≤ e) (sym (quotient_of k n)) (at_most (div_ceil k m) m (div_ceil_times k m (omega arith)).1 b)
+  where
+    at_most : (q m : ℕ) → q * m < k + m → suc k ≤ e * m + 1 → q ≤ e
+    at_most q m h b = let lt : q < suc e = lt_of_mul-lt-mul_right m (omega (arith, h, b, suc-mul e m)) in omega (arith, lt)
 
 -- a greater degree has no smaller quotient
 pub quotient_mono : (p q n : ℕ) → p ≤ q → quotient_degree p n ≤ quotient_degree q n
-quotient_mono p q n h = quotient_least p n (quotient_degree q n) (omega (arith, h, quotient_reaches q n))
+quotient_mono p q n h = quotient_least p n (quotient_degree q n) (up (quotient_degree q n * max (n - 1) 1 + 1) (quotient_reaches q n))
+  where
+    up : (r : ℕ) → q ≤ r → p ≤ r
+    up r k = omega (arith, h, k)
 
 pub quotient_within : (p n : ℕ) → quotient_degree p n ≤ p
-quotient_within p n = quotient_least p n p (omega (arith, mul-le-mul_left {m = 1} {n = max (n - 1) 1} p (omega arith)))
+quotient_within p n = quotient_least p n p (times (max (n - 1) 1) (omega arith))
+  where
+    times : (m : ℕ) → 1 ≤ m → p ≤ p * m + 1
+    times m h = omega (arith, mul-le-mul_left {m = 1} {n = m} p h)
 
 -- ---- Bounds
 
