@@ -17,11 +17,11 @@ rows_more says n fs gs h row =
     subst (λ k. LabelledRows says k gs) next (fs, h, row)
 
 -- the rows' failures are the first of the report
-pub labels_rows : {F : Type 0} (r : CommRing F) (eq : F → F → Bool) (g : Instance F) (cap : Option ℕ)
+pub labels_rows : {F : Type 0} (r : CommRing F) (eq : F → F → Bool) (g : Instance F) (limit : Option ℕ)
     (says : DebugConstraintBuilder F F → DebugConstraintBuilder F F → Type 0) (fs : List ConstraintFailure) (count : ℕ) (report : ConstraintReport)
-    {more : List ConstraintFailure} → LabelsChecked r eq g cap says fs count → report.failures.items ≡ fs ++ more
-    → LabelsRows r eq g cap says report
-labels_rows r eq g cap says fs count report {more} h is =
+    (more : List ConstraintFailure) → LabelsChecked r eq g limit says fs count → report.failures.items ≡ fs ++ more
+    → LabelsRows r eq g limit says report
+labels_rows r eq g limit says fs count report {more} h is =
     let shown = h.checked.shown in
     let n = length (report_of r eq (instance_trace g) g.air.constraints shown) in
     let long : n ≡ length fs = ap length (sym h.checked.places) ∙ length-map fs failure_place in

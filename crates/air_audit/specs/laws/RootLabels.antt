@@ -13,8 +13,8 @@ use Rattle.air_report.specs.laws.RowLabels.{names_kept}
 use Rattle.air_audit.specs.RootLabels.{RootSays, HasRootLabel}
 
 -- if this is said of the rows, as `FlatAir` and `FlatExtAir` do, each failure has its root's label
-pub roots_labelled : {F E : Type 0} {holds : RowData F E → Assertion F → Bool} {ts : List (Assertion F)} (labels : List (String Global)) (n : ℕ)
+pub roots_labelled : {F E : Type 0} (holds : RowData F E → Assertion F → Bool) (ts : List (Assertion F)) (labels : List (String Global)) (n : ℕ)
     (fs : List ConstraintFailure) → LabelledRows (λ a b. LabelledBy (GrewLabelled holds) (RootSays labels) a b ts) n fs → All (HasRootLabel labels) fs
-roots_labelled labels n fs h k d lt =
-    let named = names_kept n fs h k d lt in
+roots_labelled holds ts labels n fs h k d lt =
+    let named = names_kept (RootSays labels) holds ts n fs h k d lt in
     subst (λ text. KeepsText text (get_or fs k d).label) named.said named.kept

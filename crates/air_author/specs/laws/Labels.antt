@@ -1,16 +1,9 @@
--- Labelled assertions, one call after another.
-use Rattle.std.specs.Prelude.{⊤}
-use Rattle.std.proofs.Common.{◌≡◌, ℕ, ◌+◌, List, [], ◌∷◌, ◌++◌, length, map, Option, Result, Ok, Err, OnOk, refl, sym, ap, ap₂, subst, ◌∙◌, arith}
+-- A list of assertions under labels, from the label of each.
+use Rattle.std.proofs.Common.{◌≡◌, ℕ, ◌+◌, List, [], ◌∷◌, ◌++◌, length, map, Option, refl, sym, ap, ap₂, subst, ◌∙◌, arith}
 use Rattle.std.proofs.lemmas.List.{length-map, map-append}
-use Rattle.air_core.specs.declared.errors.AirError.{AirError}
 use Rattle.air_builder.specs.Assertion.{Assertion}
 use Rattle.air_builder.specs.Labels.{Label, Labelled, LabelledBy, IsSaid, AreSaidFrom, NamedLaws, without_labels}
-use Rattle.air_author.specs.Constraints.{IsLabelled, Then}
-
--- a call says one thing of labels, and the next one another
-pub labelled_then : {S : Type 0} (P Q : S → S → Type 0) (a b d : S) (r : Result ⊤ AirError) → P a b → OnOk r (Q b d) → OnOk r (Then P Q a d)
-labelled_then P Q a b d (Ok u) h k = (b, h, k)
-labelled_then P Q a b d (Err e) h k = tt
+use Rattle.air_author.specs.Constraints.{IsLabelled}
 
 said-append : (says : ℕ → Option (List ℕ) → Type 0) (i j : ℕ) (ls ms : List Label) → j ≡ i + length ls
     → AreSaidFrom says i ls → AreSaidFrom says j ms → AreSaidFrom says i (ls ++ ms)

@@ -14,11 +14,12 @@ use Rattle.air_report.specs.DebugRow.{debug_row}
 use Rattle.air_report.specs.RowLabels.{LabelledRow, LabelledRows, KeepsName}
 use Rattle.air_report.specs.declared.debug.failure.ConstraintFailure.{ConstraintFailure}
 
-module _ {F : Type 0} {names : ℕ → Option (List ℕ) → Type 0} where
-  kept_name : (f : ConstraintFailure) (l : Label) (k : ℕ) → f.constraint ≡ k → KeepsLabel f l → IsSaid (names k) l → KeepsName names f
-  kept_name f Unasked k at kept said = absurd kept
-  kept_name f (Shown text) k at kept said = record { text = text; said = subst (λ i. names i text) (sym at) said; kept = kept }
+kept_name : (names : ℕ → Option (List ℕ) → Type 0) (f : ConstraintFailure) (l : Label) (k : ℕ) → f.constraint ≡ k → KeepsLabel f l → IsSaid (names k) l
+    → KeepsName names f
+kept_name names f Unasked k at kept said = absurd kept
+kept_name names f (Shown text) k at kept said = record { text = text; said = subst (λ i. names i text) (sym at) said; kept = kept }
 
+module _ {F : Type 0} (names : ℕ → Option (List ℕ) → Type 0) where
   -- one assertion more, which fails or doesn't
   one_more : (row k : ℕ) (l : Labelled F) (fails : Bool) (us : List (ℕ × Assertion F)) (vs : List (Labelled F)) (more : List ConstraintFailure)
       → ((fs : List ConstraintFailure) → map failure_place fs ≡ map (λ i. (row, i)) (map (λ p. p.0) us)
@@ -30,7 +31,7 @@ module _ {F : Type 0} {names : ℕ → Option (List ℕ) → Type 0} where
   one_more row k l true us vs (f ∷ fs) rest places kept said =
       let here : failure_place f ≡ (row, k) = cc in
       let later : map failure_place fs ≡ map (λ i. (row, i)) (map (λ p. p.0) us) = cc in
-      All-cons (KeepsName names) f fs (kept_name f l.1 k (ap (λ p. p.1) here) kept.0 said) (rest fs later kept.1)
+      All-cons (KeepsName names) f fs (kept_name names f l.1 k (ap (λ p. p.1) here) kept.0 said) (rest fs later kept.1)
 
   -- the failures of labelled assertions, counted from k on
   failures_kept : (holds : Assertion F → Bool) (row k : ℕ) (ls : List (Labelled F)) (more : List ConstraintFailure)
@@ -42,7 +43,7 @@ module _ {F : Type 0} {names : ℕ → Option (List ℕ) → Type 0} where
       one_more row k l (not (holds l.0)) (filter (λ p. not (holds p.1)) (enumerate_from (k + 1) (without_labels ls))) (filter (λ v. not (holds v.0)) ls) more
       (λ fs p q. failures_kept holds row (k + 1) ls fs p q said.1) places kept said.0
 
-  module _ {E : Type 0} {holds : RowData F E → Assertion F → Bool} {ts : List (Assertion F)} where
+  module _ {E : Type 0} (holds : RowData F E → Assertion F → Bool) (ts : List (Assertion F)) where
     row_kept : (row : ℕ) (fs gs : List ConstraintFailure) → LabelledRow (λ a b. LabelledBy (GrewLabelled holds) names a b ts) row fs gs
         → All (KeepsName names) fs → All (KeepsName names) gs
     row_kept row fs gs h before =

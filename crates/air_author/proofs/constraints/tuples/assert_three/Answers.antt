@@ -1,6 +1,5 @@
-use Rattle.std.proofs.lemmas.Result.{err_from_is_err_and}
+use Rattle.std.proofs.lemmas.Result.{err_from_is_err_and, on_ok_weaker}
 use Rattle.air_author.specs.laws.Asserting.{asserted_then, beginning_gives_up}
-use Rattle.air_author.specs.laws.Labels.{labelled_then}
 use Rattle.air_author.proofs.constraints.tuples.assert_three.Goals as goal
 
 pub returns-clause-asserted : goal.returns-clause-asserted
@@ -15,7 +14,8 @@ assert_two-requires-clause-usable g c = λ b k.
     (h.0.1, h.1)
 
 pub returns-clause-labelled : goal.returns-clause-labelled
-returns-clause-labelled g c = labelled_then _ _ _ _ _ c.assert_two.result c.in_ok-assert_under.ensures.labelled c.assert_two.ensures.labelled
+returns-clause-labelled g c =
+    on_ok_weaker c.assert_two.result (λ rest. (c.assert_under.new.builder, c.in_ok-assert_under.ensures.labelled, rest)) c.assert_two.ensures.labelled
 
 pub returns-in_err-assert_under-clause-labelled : goal.returns-in_err-assert_under-clause-labelled
 returns-in_err-assert_under-clause-labelled g c =

@@ -106,5 +106,5 @@ returns-in_err-list_cells-clause-labels g c =
 pub returns-clause-labels : goal.returns-clause-labels
 returns-clause-labels g c =
     let all = instance (g.A.BaseAir.declaration c.args.air.now) c.args.main.now c.args.public_values.now in
-    labels_rows g.F.Field.ring g.F.PartialEq.eq all c.args.max_failures (g.A.Air.labels c.args.air.now) _ _ _
+    labels_rows g.F.Field.ring g.F.PartialEq.eq all c.args.max_failures (g.A.Air.labels c.args.air.now) _ _ _ _
     c.in_ok-checked.ensures.labels c.in_ok-list_cells.ensures.listed.failures

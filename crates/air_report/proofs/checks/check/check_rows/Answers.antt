@@ -93,6 +93,7 @@ rows-preserved g c =
     }
 
 pub returns-then-is_reached-clause-labels : goal.returns-then-is_reached-clause-labels
+unfolding returns-then-is_reached-clause-checked
 returns-then-is_reached-clause-labels g c = record {
   checked = returns-then-is_reached-clause-checked g c;
   labelled = subst (λ v. LabelledRows (g.A.Air.labels c.args.air.now) c.rows.row v.items) (sym c.outcome_of.ensures.failures) c.rows.invariant.labelled;
@@ -104,6 +105,7 @@ returns-in_err-check_row-clause-labels g c =
     rw p.1 tt
 
 pub returns-clause-labels : goal.returns-clause-labels
+unfolding returns-clause-checked
 returns-clause-labels g c = record {
   checked = returns-clause-checked g c;
   labelled = subst (λ v. LabelledRows (g.A.Air.labels c.args.air.now) c.rows.row v.items) (sym c.outcome_of-2.ensures.failures) c.rows.invariant.labelled;
