@@ -12,7 +12,7 @@ mod airs;
 mod fields;
 mod traces;
 
-use air_check_export::{AuditedField, LabellingBuilder, Options, export_labelled};
+use air_check_bridge::{AuditedField, LabellingBuilder, Options, export_labelled};
 use p3_air::{
     Air, AirLayout, ConstraintFailure, DebugConstraintBuilder, SymbolicAirBuilder,
     check_all_constraints, get_max_constraint_degree, get_symbolic_constraints,
