@@ -7,7 +7,7 @@ mod sealed {
     pub trait Sealed {}
 }
 
-/// A field whose AIRs can be exported: BabyBear, and by features of this crate KoalaBear, Mersenne31 and Goldilocks.
+/// A field whose AIRs can be audited, exported and imported: BabyBear, and by features of this crate KoalaBear, Mersenne31 and Goldilocks.
 ///
 /// Nothing else implements it: `air_check` knows these four, and reads each number as an element of the named field.
 pub trait AuditedField:
@@ -19,6 +19,12 @@ pub trait AuditedField:
     /// The whole number below the modulus that the element stands for. (serde may write another one: BabyBear's and
     /// KoalaBear's own are in Montgomery form.)
     fn canonical(self) -> u64;
+
+    /// The element that a whole number stands for, if the number is below the modulus.
+    fn from_canonical(number: u64) -> Option<Self> {
+        let element = Self::from_u64(number);
+        (element.canonical() == number).then_some(element)
+    }
 }
 
 macro_rules! audited_field {

@@ -1,17 +1,27 @@
-//! Writes an AIR, as p3-air records it, and its trace as the JSON object that `air_check flat` reads. The AIR is over
-//! BabyBear or, by a feature, over KoalaBear, Mersenne31 or Goldilocks.
+//! AIRs of p3-air and the program `air_check`. [`export`] writes an AIR and its trace
+//! as the JSON object that the program reads, and [`import`] reads such an object as an AIR. The AIR is over BabyBear or,
+//! by a feature, over KoalaBear, Mersenne31 or Goldilocks.
 //!
-//! This crate is not proved: it is only tried on examples that an object has the AIR's constraints.
+//! This crate is not proved: it is only tried on examples that an object has the AIR's constraints, and that an AIR that
+//! was read has the object's.
 #![forbid(unsafe_code)]
 
 mod export;
 mod export_error;
 mod expressions;
 mod fields;
+mod flat_air;
+mod import;
+mod import_error;
 mod labels;
 mod numbers;
+mod plan;
+mod planner;
 
 pub use export::{Options, export, export_labelled, export_with};
 pub use export_error::ExportError;
 pub use fields::AuditedField;
+pub use flat_air::{FlatAir, LabelledAir};
+pub use import::{Imported, import};
+pub use import_error::{ImportError, NodeFault};
 pub use labels::LabellingBuilder;
