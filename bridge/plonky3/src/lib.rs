@@ -1,4 +1,4 @@
-//! AIRs of p3-air and the program `air_check`. [`export`] writes an AIR and its trace
+//! AIRs of p3-air and the program `air_check`. [`audit`] has an AIR and its trace checked by it, [`export`] writes them
 //! as the JSON object that the program reads, and [`import`] reads such an object as an AIR. The AIR is over BabyBear or,
 //! by a feature, over KoalaBear, Mersenne31 or Goldilocks.
 //!
@@ -6,6 +6,8 @@
 //! was read has the object's.
 #![forbid(unsafe_code)]
 
+mod audit;
+mod audit_error;
 mod export;
 mod export_error;
 mod expressions;
@@ -18,6 +20,8 @@ mod numbers;
 mod plan;
 mod planner;
 
+pub use audit::{Failure, Report, audit, audit_with};
+pub use audit_error::AuditError;
 pub use export::{Options, export, export_labelled, export_with};
 pub use export_error::ExportError;
 pub use fields::AuditedField;
