@@ -11,7 +11,7 @@ use std::process::{Command, Output, Stdio};
 use std::{env, fmt};
 
 /// A further row is explained only while there are fewer failures than this.
-const EXPLAINED: usize = 10;
+const EXPLAINED: u64 = 10;
 
 /// What `air_check` finds. As a text it is `explained` and the number of failures.
 #[derive(Clone, Debug, PartialEq, Eq)]
@@ -110,8 +110,7 @@ fn audit_object(
     cells: &[BoundaryPublic],
 ) -> Result<Report, AuditError> {
     let (is_good, found) = call(program, "flat", &object)?;
-    let report = report_of(&found, &object, cells);
-    let report = report.filter(|report| report.failures.is_empty() == is_good);
+    let report = report_of(&found, is_good, &object, cells);
     let mut report = report.ok_or_else(|| AuditError::Answer {
         program: program.to_owned(),
         status: Some(i32::from(!is_good)),
@@ -119,7 +118,7 @@ fn audit_object(
     })?;
     if !is_good {
         let cap = object.get("cap").and_then(Value::as_u64);
-        object["cap"] = json!(cap.map_or(EXPLAINED as u64, |cap| cap.min(EXPLAINED as u64)));
+        object["cap"] = json!(cap.map_or(EXPLAINED, |cap| cap.min(EXPLAINED)));
         report.explained = call(program, "explain", &object)?.1;
     }
     Ok(report)
@@ -160,17 +159,23 @@ fn run(program: &OsStr, word: &str, input: &[u8]) -> io::Result<(io::Result<()>,
     Ok((written, child.wait_with_output()?))
 }
 
-/// The report that the text of `air_check flat` says.
-fn report_of(found: &str, object: &Value, cells: &[BoundaryPublic]) -> Option<Report> {
+/// The report that the text of `air_check flat` says. It has no failures exactly if the status is good.
+fn report_of(
+    found: &str,
+    is_good: bool,
+    object: &Value,
+    cells: &[BoundaryPublic],
+) -> Option<Report> {
     let mut lines = found.lines();
     let mut count = |name: &str| lines.next()?.strip_prefix(name)?.parse().ok();
     let (degree, rows, constraints) = (count("degree ")?, count("rows ")?, count("constraints ")?);
     let failures = lines.map(|line| failure_of(line, constraints, object, cells));
-    Some(Report {
+    let failures: Vec<Failure> = failures.collect::<Option<_>>()?;
+    (failures.is_empty() == is_good).then(|| Report {
         degree,
         rows,
         constraints,
-        failures: failures.collect::<Option<_>>()?,
+        failures,
         explained: found.to_owned(),
     })
 }
@@ -201,16 +206,19 @@ mod tests {
     use super::*;
     use p3_air::BoundaryEnd;
 
-    const FOUND: &str = "degree 2\nrows 4\nconstraints 2\nrow 1: #1 \"bit\"\nrow 3: #2 \"..\"\n";
-    const CELL: BoundaryPublic = BoundaryPublic::new(5, BoundaryEnd::Last, 0);
+    const FOUND: &str = "degree 2\nrows 4\nconstraints 2\nrow 1: #1 \"bit\"\nrow 3: #3 \"..\"\n";
+    const CELLS: [BoundaryPublic; 2] = [
+        BoundaryPublic::new(5, BoundaryEnd::First, 0),
+        BoundaryPublic::new(5, BoundaryEnd::Last, 1),
+    ];
 
-    fn report(found: &str) -> Option<Report> {
-        report_of(found, &json!({"labels": ["", "bit"]}), &[CELL])
+    fn report(found: &str, is_good: bool) -> Option<Report> {
+        report_of(found, is_good, &json!({"labels": ["", "bit"]}), &CELLS)
     }
 
     #[test]
     fn reports_are_read() {
-        let report = report(FOUND).unwrap();
+        let report = report(FOUND, false).unwrap();
         assert_eq!((report.degree, report.rows, report.constraints), (2, 4, 2));
         let label = Some("bit".to_owned());
         let failures = [
@@ -219,7 +227,10 @@ mod tests {
                 index: 1,
                 label,
             },
-            Failure::BoundaryValue { row: 3, cell: CELL },
+            Failure::BoundaryValue {
+                row: 3,
+                cell: CELLS[1],
+            },
         ];
         assert_eq!(report.failures, failures);
         assert_eq!(report.to_string(), format!("{FOUND}failures 2"));
@@ -227,10 +238,22 @@ mod tests {
 
     #[test]
     fn what_is_no_report_is_not_read() {
-        assert!(report("degree 2\nrows 4\n").is_none());
-        assert!(report("degree 2\nrows 4\nconstraints 2\nrow 1\n").is_none());
-        assert!(report("degree 2\nrows 4\nconstraints 2\nrow 1: #3\n").is_none());
-        assert!(report("degree -2\nrows 4\nconstraints 2\n").is_none());
+        let counts = "degree 2\nrows 4\nconstraints 2\n";
+        assert!(report(counts, true).is_some());
+        assert!(report(counts, false).is_none());
+        assert!(report(FOUND, true).is_none());
+        assert!(report("degree 2\nrows 4\n", true).is_none());
+        assert!(report("degree -2\nrows 4\nconstraints 2\n", true).is_none());
+        for line in [
+            "row 1",
+            "row 1: #4",
+            "row 1: 0",
+            "rows 1: #0",
+            "row 1: #0x",
+            "failures 1",
+        ] {
+            assert!(report(&format!("{counts}{line}\n"), false).is_none());
+        }
     }
 
     fn error_of(program: &str) -> String {

@@ -361,6 +361,12 @@ fn refused_nodes() {
         (
             0,
             4,
+            add(3, 1),
+            "constraint 0, node 4: the stated degree is 1, and the degree is 2",
+        ),
+        (
+            0,
+            4,
             add(3, 3),
             "constraint 0, node 4: the stated degree is 3, and the degree is 2",
         ),
