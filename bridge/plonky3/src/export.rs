@@ -35,8 +35,8 @@ pub struct Options {
 ///
 /// # Errors
 ///
-/// `BooleanTrace` if the AIR assumes a trace of bits. `PreprocessedWidth` if its `preprocessed_width()` isn't the width of
-/// its preprocessed trace, or 0 without one: p3-air doesn't compare them, and by another width it records other
+/// `BooleanTrace` if the AIR assumes a trace of bits. `PreprocessedWidth` if its `preprocessed_width()` isn't the width
+/// of its preprocessed trace, or 0 without one: p3-air doesn't compare them, and by another width it records other
 /// constraints than those of the preprocessed trace. `ExtensionConstraints` if the AIR asserts over an extension.
 pub fn export<F, A>(
     air: &A,
@@ -172,8 +172,8 @@ where
     })
 }
 
-/// The layout that an AIR is recorded by, if an object can hold the AIR, and the layout's preprocessed width is that of the
-/// AIR's preprocessed trace.
+/// The layout that an AIR is recorded by, if its constraints say all and the layout's preprocessed width is that of its
+/// preprocessed trace.
 fn layout_of<F, A>(air: &A, options: &Options) -> Result<AirLayout, ExportError>
 where
     F: AuditedField,

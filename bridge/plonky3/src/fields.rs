@@ -7,7 +7,8 @@ mod sealed {
     pub trait Sealed {}
 }
 
-/// A field whose AIRs can be audited, exported and imported: BabyBear, and by features of this crate KoalaBear, Mersenne31 and Goldilocks.
+/// A field whose AIRs can be audited, exported and imported: BabyBear, and by features of this crate KoalaBear,
+/// Mersenne31 and Goldilocks.
 ///
 /// Nothing else implements it: `air_check` knows these four, and reads each number as an element of the named field.
 pub trait AuditedField:

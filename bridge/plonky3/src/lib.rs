@@ -1,9 +1,9 @@
-//! AIRs of p3-air and the program `air_check`. [`audit`] has an AIR and its trace checked by it, [`export`] writes them
-//! as the JSON object that the program reads, and [`import`] reads such an object as an AIR. The AIR is over BabyBear or,
-//! by a feature, over KoalaBear, Mersenne31 or Goldilocks.
+//! AIRs of p3-air and the program `air_check`: [`audit`] runs it on an AIR and a trace, [`export`] writes them as the
+//! JSON object that it reads, and [`import`] reads such an object as an AIR. The AIR is over BabyBear or, by a feature,
+//! over KoalaBear, Mersenne31 or Goldilocks.
 //!
-//! This crate is not proved: it is only tried on examples that an object has the AIR's constraints, and that an AIR that
-//! was read has the object's.
+//! This crate is not proved: it is only tried on examples that an object has the AIR's constraints, and that an
+//! imported AIR has the object's.
 #![forbid(unsafe_code)]
 
 mod audit;

@@ -136,7 +136,10 @@ fn the_last_of_two_members_counts() {
 #[test]
 fn equal_nodes_are_computed_once_and_unused_ones_never() {
     let unary = |x: usize| json!({"Neg": {"degree_multiple": 1, "x": x}});
-    let binary = |name: &str, x: usize, y: usize, degree: usize| json!({name: {"degree_multiple": degree, "x": x, "y": y}});
+    let binary = |name: &str, x: usize, y: usize, degree: usize| {
+        let operation = json!({"degree_multiple": degree, "x": x, "y": y});
+        json!({name: operation})
+    };
     let short = json!([
         main_column(0, 0),
         main_column(0, 1),

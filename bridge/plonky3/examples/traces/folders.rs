@@ -14,8 +14,8 @@ pub struct Point<E> {
     pub selectors: [E; 3],
 }
 
-/// A folder with values in `E`, an algebra over `F`: packed elements of `F` as in a prover, or an extension of `F` as in
-/// a verifier. Public values are in `F`.
+/// A folder with values in `E`, an algebra over `F`: packed elements of `F` as in a prover, or an extension of `F` as
+/// in a verifier. Public values are in `F`.
 pub struct Folder<'a, F, E> {
     point: &'a Point<E>,
     preprocessed: RowWindow<'a, E>,

@@ -1,4 +1,4 @@
-//! Exports traces, with the results of p3-air for them, and compares each AIR with the one that is read from its object.
+//! Exports traces, with the results of p3-air for them, and compares each AIR with the one read from its object.
 //!
 //!     traces FOLDER              writes each trace: FOLDER/NAME, and FOLDER/NAME.stdout, the text that air_check must
 //!                                print; the last line says on how many ways back the AIRs differ

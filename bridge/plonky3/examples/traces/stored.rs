@@ -10,8 +10,8 @@ use std::collections::HashMap;
 use std::panic::{self, AssertUnwindSafe};
 use std::{fs, io};
 
-/// Compares the runs of `air_check flat` in these tables with p3-air. Answers how many there are over the fields of this
-/// build, and how many of them differ.
+/// Compares the runs of `air_check flat` in these tables with p3-air. Answers the number of runs over the fields of
+/// this build, and how many of them differ.
 pub fn compare(tables: &[String]) -> io::Result<(usize, usize)> {
     let (mut count, mut differ) = (0, 0);
     panic::set_hook(Box::new(|_| ())); // p3-air panics for what air_check refuses
