@@ -90,6 +90,7 @@ pub use Rattle.air_json.specs.declared.errors.FlatError
 pub use Rattle.air_builder.specs.Assertion
 pub use Rattle.air_builder.specs.Notation
 pub use Rattle.air_builder.specs.Declaration
+pub use Rattle.air_builder.specs.declared.airs.beside.Beside
 pub use Rattle.air_builder.specs.Batches
 pub use Rattle.air_builder.specs.Labels
 pub use Rattle.air_builder.specs.Filters

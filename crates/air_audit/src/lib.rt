@@ -24,6 +24,7 @@ pub use air_builder::AssertAll;
 pub use air_builder::AssertAllExt;
 pub use air_builder::AssertAllNamed;
 pub use air_builder::BaseAir;
+pub use air_builder::Beside;
 pub use air_builder::BoundaryEnd;
 pub use air_builder::BoundaryIoError;
 pub use air_builder::BoundaryPublic;

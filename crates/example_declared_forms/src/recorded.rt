@@ -2,7 +2,7 @@
 
 use p3_air::author::{FirstRow, IsOne, LastRow, Transition, When, current, next, public};
 use p3_air::{
-    AirBuilder, AirError, AirLayout, Audit, BabyBear, Field, FlatAir, RowMajorMatrix,
+    AirBuilder, AirError, AirLayout, Audit, BabyBear, Beside, Field, FlatAir, RowMajorMatrix,
     SymbolicAirBuilder, audit_air, finish_recording, record_these, recorded_air,
 };
 use std::alloc::Global;
@@ -29,7 +29,7 @@ fn record_doubling<F: Field>(alloc: Global) -> Result<FlatAir<F>, AirError> {
     let mut builder: SymbolicAirBuilder<F, F> = SymbolicAirBuilder::new(alloc, layout)?;
     assert_doubling(&mut builder)?;
     let recorded = finish_recording(builder);
-    recorded_air(recorded, 1, 1, Vec::new(alloc), Vec::new(alloc))
+    recorded_air(recorded, Beside::new(alloc, 1, 1))
 }
 
 /// Audits four rows whose last value is `last`.

@@ -62,6 +62,7 @@ pub use air_audit::AssertAllNamed;
 pub use air_audit::Audit;
 pub use air_audit::BabyBear;
 pub use air_audit::BaseAir;
+pub use air_audit::Beside;
 pub use air_audit::BaseEntry;
 pub use air_audit::BaseLeaf;
 pub use air_audit::BinomialExtension;

@@ -23,8 +23,8 @@ returns g c =
     let counts = string_bytes c.push_counts.new.text in
     let front = string_bytes c.push_names.new.text in
     let text = string_bytes c.push_failures.new.text in
-    text_explained m air.pool air.roots.items air.cells.items trace names f counts front text
+    text_explained m air.pool air.roots.items air.beside.cells.items trace names f counts front text
     (subst (λ (rs : List ℕ). AreNames base_leaves air.pool.nodes rs names) c.deref.ensures.value c.in_ok-names.ensures)
     (c.in_ok-push_counts.ensures ∙ ap (λ (t : List ℕ). t ++ lines_text (count_lines f)) c.new-text.ensures.bytes)
     (subst (λ (fs : List ConstraintFailure). PushesNames m air.pool air.roots.items names (map seen_failure fs) counts front) c.deref-2.ensures.value c.in_ok-push_names.ensures)
-    (subst (λ (fs : List ConstraintFailure). PushesExplained m air.pool air.roots.items air.cells.items trace names.1 (map seen_failure fs) front text) c.deref-3.ensures.value c.in_ok-push_failures.ensures)
+    (subst (λ (fs : List ConstraintFailure). PushesExplained m air.pool air.roots.items air.beside.cells.items trace names.1 (map seen_failure fs) front text) c.deref-3.ensures.value c.in_ok-push_failures.ensures)
