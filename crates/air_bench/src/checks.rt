@@ -2,8 +2,9 @@
 
 use crate::traces::{fibonacci_trace, wide_trace};
 use air_audit::{
-    Air, AirError, AirLayout, BaseAir, Beside, DebugConstraintBuilder, Field, FlatAir, RowMajorMatrix,
-    SymbolicAirBuilder, check_all_constraints, get_symbolic_constraints, recorded_air,
+    Air, AirError, AirLayout, BaseAir, Beside, DebugConstraintBuilder, Field, FlatAir,
+    RowMajorMatrix, SymbolicAirBuilder, check_all_constraints, get_symbolic_constraints,
+    recorded_air,
 };
 use example_fibonacci::Fibonacci;
 use std::alloc::Global;

@@ -4,8 +4,8 @@ ghost use Rattle.std.specs.Prelude.{IfOk};
 use crate::reports::{given_of, show_audit};
 use air_audit::author::{Boolean, Current, Equal, Next, Sum, Transition, When};
 use air_audit::{
-    AirBuilder, AirError, AirLayout, Beside, ExprPool, Field, FlatAir, Recorded, SymbolicAirBuilder,
-    finish_recording, record_these, recorded_air,
+    AirBuilder, AirError, AirLayout, Beside, ExprPool, Field, FlatAir, Recorded,
+    SymbolicAirBuilder, finish_recording, record_these, recorded_air,
 };
 use std::alloc::Global;
 use test_lines::Fault;
