@@ -22,7 +22,7 @@ module _ {F E : Type 0} (r : CommRing F) (a : AlgebraOver F E) (laws : AlgebraOv
     over t i = a.embed (on_row r g i t)
 
     rows_are : (n : ℕ) → trace_entries r a g (table_lookup r looked_up offered multiplicity) n ≡ row_entries a.ring (over looked_up) (over offered) (over multiplicity) n
-    unfolding entry, row_list
+    unfolding entry row_list
     rows_are zero = refl
     rows_are (suc n) =
         ap₂ (λ es fs. es ++ fs) (rows_are n)
