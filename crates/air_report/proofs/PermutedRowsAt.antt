@@ -6,7 +6,7 @@ use Rattle.air_report.specs.Instances.{Instance, instance_trace}
 use Rattle.air_report.specs.Permuted.{PermutationTrace, permuted_row, permuted_shape}
 use Rattle.air_report.proofs.RowsAt.{row_beside, shape_beside}
 
-module _ {F E : Type 0} (g : Instance F) (p : PermutationTrace E) {others : ViewPair E} where
+module _ {F E : Type 0} (g : Instance F) (p : PermutationTrace E) (others : ViewPair E) where
   pub permuted_is : (r : CommRing F) {i : ℕ} → slice_get p.trace.rows i ≡ Some others.top.values.now
       → slice_get p.trace.rows ((i + 1) % length p.trace.rows) ≡ Some others.bottom.values.now
       → row_beside r g i (Some others) p.challenges p.exposed ≡ permuted_row r (instance_trace g) p i

@@ -67,11 +67,11 @@ module _ {F E : Type 0} (g : Instance F) {i : ℕ} {pair table : ViewPair F} {se
     (made : IsRow i pair table g.public selected row) (at : IsMovedTo row periodic others challenges exposed fs b) where
   -- if the test at the builder's row finds zero what the test of the check does, the builder grows by the failures that
   -- the check of the row adds
-  pub checked_by : (zero : ℕ → Assertion F → Bool) (by : RowData F E → Assertion F → Bool) {d e : RowData F E} {n : ℕ} {gs hs : List ConstraintFailure}
-      → debug_row b ≡ d → d.row ≡ i → nonzero_by (by d) 0 g.air.constraints ≡ nonzero_by (zero i) 0 g.air.constraints → hs ≡ gs
+  pub checked_by : (test : ℕ → Assertion F → Bool) (by : RowData F E → Assertion F → Bool) {d e : RowData F E} {n : ℕ} {gs hs : List ConstraintFailure}
+      → debug_row b ≡ d → d.row ≡ i → nonzero_by (by d) 0 g.air.constraints ≡ nonzero_by (test i) 0 g.air.constraints → hs ≡ gs
       → GrewAtRow by (debug_row b) e b.constraint_index n b.failures.items gs g.air.constraints
-      → CheckedRowBy zero g.air.constraints i fs hs n
-  checked_by zero by there here same handed grew =
+      → CheckedRowBy test g.air.constraints i fs hs n
+  checked_by test by there here same handed grew =
       let places_of : RowData F E → ℕ → List (ℕ × ℕ) = λ d n. map (λ k. (d.row, k)) (nonzero_by (by d) n g.air.constraints) in
       record {
         more = grew.more;

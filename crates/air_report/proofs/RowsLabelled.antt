@@ -21,7 +21,7 @@ pub labels_rows : {F : Type 0} (r : CommRing F) (eq : F → F → Bool) (g : Ins
     (says : DebugConstraintBuilder F F → DebugConstraintBuilder F F → Type 0) (fs : List ConstraintFailure) (count : ℕ) (report : ConstraintReport)
     (more : List ConstraintFailure) → LabelsChecked r eq g limit says fs count → report.failures.items ≡ fs ++ more
     → LabelsRows r eq g limit says report
-labels_rows r eq g limit says fs count report {more} h is =
+labels_rows r eq g limit says fs count report more h is =
     let shown = h.checked.shown in
     let n = length (report_of r eq (instance_trace g) g.air.constraints shown) in
     let long : n ≡ length fs = ap length (sym h.checked.places) ∙ length-map fs failure_place in

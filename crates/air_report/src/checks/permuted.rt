@@ -34,7 +34,7 @@ fn check_permuted_row<
 ) -> Result<(), AirError>
     requires within { row < length main.now.rows }
     requires height { HasHeight (instance (A.declaration air.now) main.now public_values.now)
-        (permutation_trace permutation.entry) }
+        (permutation_trace permutation) }
     requires fits { Fits (instance (A.declaration air.now) main.now public_values.now) }
     ensures checked { let g = instance (A.declaration air.now) main.now public_values.now in
         OnOk result (CheckedRowBy
@@ -78,7 +78,7 @@ fn check_permuted_rows<
     max_failures: Option<usize>,
 ) -> Result<RowOutcome, AirError>
     requires height { HasHeight (instance (A.declaration air.now) main.now public_values.now)
-        (permutation_trace permutation.entry) }
+        (permutation_trace permutation) }
     requires fits { Fits (instance (A.declaration air.now) main.now public_values.now) }
     ensures checked { let g = instance (A.declaration air.now) main.now public_values.now in
         let p = permutation_trace permutation.entry in
@@ -113,7 +113,7 @@ fn permuted_report<
     max_failures: Option<usize>,
 ) -> Result<ConstraintReport, AirError>
     requires height { HasHeight (instance (A.declaration air.now) main.now public_values.now)
-        (permutation_trace permutation.entry) }
+        (permutation_trace permutation) }
     requires fits { Fits (instance (A.declaration air.now) main.now public_values.now) }
     ensures report { IfOk result (IsPermutedReport F.ring EF.over F.eq EF.eq
         (instance (A.declaration air.now) main.now public_values.now)
