@@ -61,4 +61,4 @@ module _ {F : Type 0} (names : ℕ → Option (List ℕ) → Type 0) where
     pub names_kept : (n : ℕ) (fs : List ConstraintFailure) → LabelledRows (λ a b. LabelledBy (GrewLabelled holds) names a b ts) n fs
         → All (KeepsName names) fs
     names_kept zero fs h = subst (All (KeepsName names)) (sym h) (All-nil (KeepsName names))
-    names_kept (suc n) fs h = row_kept n h.0 fs h.1.1 (names_kept n h.0 h.1.0)
+    names_kept (suc n) fs h = row_kept n h.0 fs h.2 (names_kept n h.0 h.1)

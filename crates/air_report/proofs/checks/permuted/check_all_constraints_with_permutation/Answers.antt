@@ -1,4 +1,4 @@
-use Rattle.std.proofs.Common.{ap, sym, inl, inr, ◌∙◌}
+use Rattle.std.proofs.Common.{ap, sym, refl, inl, inr, ◌∙◌}
 use Rattle.std.proofs.lemmas.Result.{err_from_is_err_and, IfOk-weaker, IfErr-weaker}
 use Rattle.air_field.specs.laws.Characteristic.{embed_same}
 use Rattle.air_report.specs.Instances.{instance}
@@ -57,14 +57,13 @@ returns-in_err-check_permutation_height-clause-refused g c =
     c.args.max_failures)
     (inr (fits, inl (rw (← c.height-height.ensures, ← c.height.ensures) c.in_err-check_permutation_height.ensures.refused)))
 
-pub permuted_report-requires-clause-height : goal.permuted_report-requires-clause-height
-permuted_report-requires-clause-height g c = sym c.height.ensures ∙ (c.in_ok-check_permutation_height.ensures.fits ∙ c.height-height.ensures)
-
-pub permuted_report-requires-clause-fits : goal.permuted_report-requires-clause-fits
-permuted_report-requires-clause-fits g c =
+pub permuted_report-requires : goal.permuted_report-requires
+permuted_report-requires g c =
     let all = instance (g.A.BaseAir.declaration c.args.air.now) c.args.main.now c.args.public_values.now in
-    instance_fits all c.periodic_columns.ensures c.height-height.ensures (c.table_height.ensures ∙ ap table_height c.preprocessed_trace.ensures)
-    c.in_ok-check_shapes.ensures
+    let height = sym c.height.ensures ∙ (c.in_ok-check_permutation_height.ensures.fits ∙ c.height-height.ensures) in
+    let fits = instance_fits all c.periodic_columns.ensures c.height-height.ensures
+    (c.table_height.ensures ∙ ap table_height c.preprocessed_trace.ensures) c.in_ok-check_shapes.ensures in
+    λ k. (c.type_bounds.static-EF, ((refl, tt), (height, fits)))
 
 pub returns-clause-height : goal.returns-clause-height
 returns-clause-height g c =

@@ -22,7 +22,7 @@ returns-clause-checked g c =
     let held = row_at-given all c.new.ensures c.move_to_permuted.ensures c.preprocessed_trace.ensures periodic r c.requires.fits
     c.row_pair.ensures.top c.row_pair.ensures.bottom c.table_pair.ensures.top c.table_pair.ensures.bottom
     (c.at.ensures ∙ ap (row_selectors r c.args.row) c.height.ensures) in
-    let same = held ∙ permuted_is all p _ r c.row_pair-2.ensures.top c.row_pair-2.ensures.bottom in
+    let same = held ∙ permuted_is all p c.row_pair-2.result r c.row_pair-2.ensures.top c.row_pair-2.ensures.bottom in
     on_ok_weaker c.eval.result
     (λ grew. checked_by all c.new.ensures c.move_to_permuted.ensures (permuted_zero r g.EF.ExtensionField.over g.F.PartialEq.eq g.EF.PartialEq.eq all p)
     (is_zero_at r g.EF.ExtensionField.over g.F.PartialEq.eq g.EF.PartialEq.eq) same refl refl refl grew) c.eval.ensures.evaluated.asserted.ok
@@ -34,7 +34,7 @@ returns-clause-there g c =
     let periodic : map Some c.fill_periodic_row.new.values.items ≡ map (column_at c.args.row) columns =
     rw (← c.periodic_columns.ensures) c.in_ok-fill_periodic_row.ensures.filled in
     let same = shape-given all c.new.ensures c.move_to_permuted.ensures c.preprocessed_trace.ensures periodic
-    c.row_pair.ensures.width c.table_pair.ensures.width ∙ permuted_shape_is all (permutation_trace c.args.permutation) _ c.row_pair-2.ensures.width in
+    c.row_pair.ensures.width c.table_pair.ensures.width ∙ permuted_shape_is all (permutation_trace c.args.permutation) c.row_pair-2.result c.row_pair-2.ensures.width in
     subst (λ s. OnOk c.eval.result (NoneMissing (IsMissing s) all.air.constraints)) same c.eval.ensures.evaluated.there
 
 pub returns-in_err-fill_periodic_row-clause-refused : goal.returns-in_err-fill_periodic_row-clause-refused
@@ -53,5 +53,5 @@ returns-clause-refused g c =
     let periodic : map Some c.fill_periodic_row.new.values.items ≡ map (column_at c.args.row) columns =
     rw (← c.periodic_columns.ensures) c.in_ok-fill_periodic_row.ensures.filled in
     let same = shape-given all c.new.ensures c.move_to_permuted.ensures c.preprocessed_trace.ensures periodic
-    c.row_pair.ensures.width c.table_pair.ensures.width ∙ permuted_shape_is all (permutation_trace c.args.permutation) _ c.row_pair-2.ensures.width in
+    c.row_pair.ensures.width c.table_pair.ensures.width ∙ permuted_shape_is all (permutation_trace c.args.permutation) c.row_pair-2.result c.row_pair-2.ensures.width in
     IfErr-weaker c.eval.result _ _ (row_refusal all c.new.ensures c.move_to_permuted.ensures same) c.eval.ensures.evaluated.asserted.refused
