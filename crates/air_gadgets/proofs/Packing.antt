@@ -92,14 +92,14 @@ module _ {F : Type 0} (at : ℕ → Term F) where
           operand_gives_up (above_of_whole last i within) (one_of_whole last k (omega (arith, lower, within))) p
           (second_gives_up ring laws _ _ _ _ _ (Err _) _ _ h refl k_refused)
 
-      pub one_packed : {a b d : S} {q r : R} {x y : E} {done : Result E RingError} {z : Result E AirError}
+      pub one_packed : {a b d : S} {q r : R} {x y : E} (done : Result E RingError) {z : Result E AirError}
           → MakesTerm (MeansIn view) grew missing refuses a b (Ok x) (packed_above last i)
           → MakesTerm (MeansIn view) grew missing refuses b d (Ok y) (at k)
           → z ≡ air_result done → q ≡ ring_of d → extends q r
           → IfOk done (MadeOfBoth has means twice_and_term q r x y)
           → IfErr done (RefusedOfBoth means ring_refuses twice_and_term q x y)
           → MakesTerm (MeansIn view) grew missing refuses a (with_ring d r) z (packed_above last k)
-      one_packed {a} {b} {d} {q} {r} {x} {y} {done} {z} h k_made o p w m f =
+      one_packed {a} {b} {d} {q} {r} {x} {y} done {z} h k_made o p w m f =
           moved (one_more last i k lower within)
           (both_answered ring laws twice_and_term a d q r x y done (packed_above last i) (at k) (twice_and_term (packed_above last i) (at k)) z
           (one_by_one ring laws a b d x y _ _ h k_made) o p w m f refl (λ l. ((l.0, l.0), l.1)))

@@ -24,14 +24,14 @@ returns-in_err-sum-2 g c =
     let lower : c.loop-index.index ≡ suc (c.loop-index.index - 1) = omega (arith, c.loop-index-test.true) in
     let within : c.loop-index.index - 1 ≤ c.args.last = omega (arith, c.loop-index.invariant.within) in
     part_gives_up (above_of_whole (g.S.Series.term_at c.args.series.now) c.args.last (c.loop-index.index - 1) within) c.from_residual-in_err-sum-2.ensures.1
-    (one_packed (g.S.Series.term_at c.args.series.now) g.met.AB.Ring.Algebra.laws g.met.AB.AirBuilder.laws c.args.last c.loop-index.index _ lower c.loop-index.invariant.within
+    (one_packed (g.S.Series.term_at c.args.series.now) g.met.AB.Ring.Algebra.laws g.met.AB.AirBuilder.laws c.args.last c.loop-index.index _ lower c.loop-index.invariant.within c.twice_and.result
     c.loop-index.invariant.made c.in_ok-bit.ensures c.in_err-sum-2.ensures c.ring.ensures.value c.twice_and.ensures.extended c.twice_and.ensures.made c.twice_and.ensures.refused)
 
 pub loop-index-preserved : goal.loop-index-preserved
 loop-index-preserved g c =
     let lower : c.loop-index.index ≡ suc (c.loop-index.index - 1) = omega (arith, c.loop-index-test.true) in record {
       within = omega (arith, c.loop-index.invariant.within);
-      made = one_packed (g.S.Series.term_at c.args.series.now) g.met.AB.Ring.Algebra.laws g.met.AB.AirBuilder.laws c.args.last c.loop-index.index _ lower c.loop-index.invariant.within
+      made = one_packed (g.S.Series.term_at c.args.series.now) g.met.AB.Ring.Algebra.laws g.met.AB.AirBuilder.laws c.args.last c.loop-index.index _ lower c.loop-index.invariant.within c.twice_and.result
           c.loop-index.invariant.made c.in_ok-bit.ensures c.in_ok-sum-2.ensures c.ring.ensures.value c.twice_and.ensures.extended c.twice_and.ensures.made c.twice_and.ensures.refused;
     }
 

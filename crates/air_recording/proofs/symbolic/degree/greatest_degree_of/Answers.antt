@@ -14,8 +14,8 @@ greatest_at-requires g c =
     table_here base_reads inside.pool.base (leaf_weight c.args.weight) _ inside.base.items _ c.in_ok-base.ensures.base c.deref.ensures.value
     (subst (λ v. All (λ i. i < length v.pool.base.nodes) v.base) (sym c.recorded.view_is) c.requires.base_here)
 
-pub greatest_at-2-requires : goal.greatest_at-2-requires
-greatest_at-2-requires g c =
+pub greatest_at-requires-2 : goal.greatest_at-requires-2
+greatest_at-requires-2 g c =
     let inside = c.recorded.inside in
     table_here (ext_reads g.EF.ExtensionField.basis) inside.pool (leaf_weight c.args.weight) _ inside.ext.items _ c.in_ok-base.ensures.degrees c.deref-2.ensures.value
     (subst (λ v. All (λ i. i < length v.pool.nodes) v.ext) (sym c.recorded.view_is) c.requires.ext_here)
