@@ -1,5 +1,5 @@
 -- The inferred degree of two lists of terms, from their greatest degrees.
-use Rattle.std.proofs.Common.{◌≡◌, ◌≢◌, ◌==◌, true, false, ℕ, ◌≤◌, ◌^◌, max, List, [], ◌∷◌, ◌++◌, ◌*◌, refl, sym, ap, subst, ◌∙◌, arith, Result, Ok, Err, length, zero, suc, ◌<◌, ◌-◌, map, All, inl, inr, ⊎_elim}
+use Rattle.std.proofs.Common.{◌≡◌, ◌≢◌, ◌==◌, true, false, ℕ, ◌≤◌, ◌^◌, max, List, [], ◌∷◌, ◌++◌, ◌*◌, ◌+◌, refl, sym, ap, subst, ◌∙◌, arith, Result, Ok, Err, length, zero, suc, ◌<◌, ◌-◌, map, All, inl, inr, ⊎_elim}
 use Rattle.std.proofs.lemmas.Bool.{false≢true, cases_lt}
 use Rattle.std.proofs.Math.Nat.{max-eq_right, max-le, le-max_left, le-max_right, mul-le-mul_right}
 use Rattle.air_field.specs.Term.{Leaf, Term}

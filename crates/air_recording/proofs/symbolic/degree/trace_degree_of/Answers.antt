@@ -1,4 +1,4 @@
-use Rattle.std.proofs.Common.{◌≡◌, max, ap, ap₂, subst, ◌∙◌}
+use Rattle.std.proofs.Common.{◌≡◌, max, ap, ap₂, subst, ◌∙◌, arith}
 use Rattle.std.proofs.lemmas.Result.{err_from_is_err_and}
 use Rattle.air_field.specs.Degree.{cached_weight, greatest_degree, quotient_degree}
 use Rattle.air_symbolic.specs.BaseLeaves.{base_reads}
@@ -19,7 +19,7 @@ pub returns-then-not-is_empty : goal.returns-then-not-is_empty
 returns-then-not-is_empty g c =
     let terms = recorded_terms g.EF.ExtensionField.basis c.args.recorded.now in
     let quotient = c.quotient_of.ensures ∙ ap (λ d. quotient_degree d c.args.trace_len) c.in_ok-greatest.ensures.greatest in
-    answered_periodic c.args.trace_len c.args.periods.now terms _ _ c.ranges.trace_len quotient c.in_ok-degree.ensures c.if-not-is_empty.ensures
+    answered_periodic c.args.trace_len c.args.periods.now terms _ _ (omega (arith, c.ranges.trace_len)) quotient c.in_ok-degree.ensures c.if-not-is_empty.ensures
 
 pub returns : goal.returns
 returns g c =
@@ -31,4 +31,4 @@ returns g c =
     let ext = c.greatest_cached-ext.ensures ∙ ap (λ l. greatest_degree cached_weight (terms_of reads inside.pool l)) c.deref-2.ensures.value in
     let greatest = subst (λ v. c.max-2.result ≡ max degree (max (greatest_degree cached_weight (terms_of base_reads v.pool.base v.base)) (greatest_degree cached_weight (terms_of reads v.pool v.ext)))) c.recorded.view_is
     (c.max-2.ensures ∙ ap (max degree) (c.max.ensures ∙ ap₂ max base ext)) in
-    answered_plain c.args.trace_len c.args.periods.now _ _ _ _ _ c.ranges.trace_len quotient c.in_ok-degree.ensures c.if-not-is_empty.ensures greatest c.max-2.type_inv
+    answered_plain c.args.trace_len c.args.periods.now _ _ _ _ _ (omega (arith, c.ranges.trace_len)) quotient c.in_ok-degree.ensures c.if-not-is_empty.ensures greatest c.max-2.type_inv
