@@ -11,8 +11,14 @@ use Rattle.air_audit.specs.declared.flat.step.Step.TheVariants as step
 use Rattle.air_audit.specs.Plans.{number_at, IsPlaceOf, IsOfKind, step_places, StepMakes, IsPlan}
 
 IsOfKind-prop : {A F : Type 0} (l : Leaves A F) (s : Step) (n : SymbolicExpr A) → IsProp (IsOfKind l s n)
+IsOfKind-prop l step.Leaf (node.Leaf a) = hlevel props
 IsOfKind-prop l (step.Current c) (node.Leaf a) = hlevel props
 IsOfKind-prop l (step.Next c) (node.Leaf a) = hlevel props
+IsOfKind-prop l (step.Add p q) (node.Add x y d) = hlevel props
+IsOfKind-prop l (step.Sub p q) (node.Sub x y d) = hlevel props
+IsOfKind-prop l (step.Neg p) (node.Neg x d) = hlevel props
+IsOfKind-prop l (step.Mul p q) (node.Mul x y d) = hlevel props
+IsOfKind-prop l (step.Gate p q) (node.Mul x y d) = hlevel props
 IsOfKind-prop l _ _ = hlevel props
 
 zip-prop : {X Y : Type 0} (R : X → Y → Type 0) → ((x : X) (y : Y) → IsProp (R x y)) → (xs : List X) (ys : List Y) → IsProp (AllZip R xs ys)
