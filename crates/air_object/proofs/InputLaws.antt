@@ -1,20 +1,25 @@
 -- Whole objects: the members' reader answers exactly what they spell, or their first fault.
-use Rattle.std.proofs.Common.{ℕ, ◌≡◌, ◌≢◌, refl, sym, ap, ◌∙◌, inl, inr}
+use Rattle.std.proofs.Common.{ℕ, ◌≡◌, ◌≢◌, Result, Ok, Vec, Global, refl, sym, ap, subst, ◌∙◌, inl, inr}
 use Rattle.serde_json.specs.Data.{Data}
 use Rattle.air_core.specs.declared.errors.AirError.{AirError}
 use Rattle.air_core.specs.declared.errors.AirError.TheVariants as air
 use Rattle.air_field.specs.Modular.{Modular}
 use Rattle.air_json.specs.Faults.{air_fault}
 use Rattle.air_json.specs.laws.Readings.{done_is, not_done}
-use Rattle.air_json.specs.Results.{Fails}
+use Rattle.air_json.specs.Results.{Fails, Gives}
 use Rattle.air_json.specs.declared.errors.FlatError.{FlatError}
 use Rattle.air_json.specs.declared.errors.FlatError.TheVariants as faults
 use Rattle.air_object.specs.Input.{SpellsInput, HasInputFault}
 use Rattle.air_object.specs.declared.input.FlatInput.{FlatInput}
 use Rattle.air_object.specs.Members.{Made, members}
-use Rattle.air_object.specs.Readers.{members_read}
+use Rattle.air_object.specs.Parts.{ArePartsOf, given_elements, given_by}
+use Rattle.air_object.specs.Readers.{members_read, members_with}
+use Rattle.air_object.specs.Seen.{seen_made}
+use Rattle.air_object.specs.declared.constraints.Constraints.{Constraints}
+use Rattle.air_field.specs.declared.errors.MatrixError.{MatrixError}
 use Rattle.air_json.specs.laws.Readings.{err_is}
 use Rattle.air_object.specs.laws.Members.{members_agree}
+use Rattle.air_object.proofs.PartLemmas.{parts_give}
 
 module _ {F : Type 0} {order : ℕ} (modular : Modular F order) where
   pub member_fault : (d : Data) (f : FlatError) (e : AirError) → e ≡ air_fault f → Fails f (members_read modular d) → e ≢ air.Memory → HasInputFault modular d e
@@ -25,6 +30,12 @@ module _ {F : Type 0} {order : ℕ} (modular : Modular F order) where
   member_fault d (faults.Operand place i) e is h n = inl (faults.Operand place i, (members_agree modular).fault d _ h, is)
   member_fault d (faults.WrongDegree place s k) e is h n = inl (faults.WrongDegree place s k, (members_agree modular).fault d _ h, is)
   member_fault d (faults.NotCanonical place) e is h n = inl (faults.NotCanonical place, (members_agree modular).fault d _ h, is)
+
+  -- what is made of the parts of a value is what the value spells
+  pub parts_spell : (d rest : Data) (es : Result (Vec F Global) FlatError) (c : Constraints F) → ArePartsOf modular d rest es c → (one other : Result (FlatInput F) MatrixError)
+      → Gives seen_made (Ok one) (members_with modular (given_elements es) (given_by c) rest) → one ≡ other → (members modular).spells d (seen_made other)
+  parts_spell d rest es c parts one other h same =
+      subst (λ r. (members modular).spells d (seen_made r)) same ((members_agree modular).found d (seen_made one) (parts_give modular d rest es c parts seen_made (Ok one) h))
 
   -- ---- an object is read in one way
 

@@ -1,5 +1,5 @@
 use Rattle.std.proofs.lemmas.Result.{err_from_is_err_and}
-use Rattle.std.proofs.Common.{inl}
+use Rattle.std.proofs.Common.{refl, inl}
 use Rattle.air_program.specs.ByField.{HasParts}
 use Rattle.air_program.specs.FlatAnswer.{input_of}
 use Rattle.air_program.proofs.FlatAnswers.{parts_refused}
@@ -15,7 +15,7 @@ pub returns-in_err-text : goal.returns-in_err-text
 returns-in_err-text g c =
     let out = c.from_residual-in_err-text in
     let p = err_from_is_err_and out.result out.ensures.1 in
-    rw (p.1, p.2) (record { ok = tt; refused = inl _ })
+    rw (p.1, p.2) (record { ok = tt; refused = inl refl })
 
 pub returns : goal.returns
 returns g c =
