@@ -1,5 +1,5 @@
 -- The failures of a row of a trace and of its permutation trace.
-use Rattle.std.specs.Prelude.{◌≡◌, ℕ, List, map, Bool}
+use Rattle.std.specs.Prelude.{◌≡◌, List, map, Bool}
 use Rattle.air_builder.specs.Assertion.{Assertion}
 use Rattle.air_report.specs.Debug.{RowData, nonzero_by}
 use Rattle.air_report.specs.Report.{failure_place}

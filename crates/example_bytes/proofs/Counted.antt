@@ -1,6 +1,6 @@
 -- If the report is empty, column 1 counts the rows; so a value that isn't a byte isn't in the table.
-use Rattle.std.specs.Prelude.{◌≡◌, ◌≢◌, ◌↔◌, ◌==◌, ℕ, zero, suc, ◌+◌, ◌%◌, ◌<◌, List, [], ◌∷◌, length, Bool, true, false, slice_get, slice_index_or, if◌then◌else◌, refl}
-use Rattle.std.proofs.Common.{sym, ◌∙◌, ap, subst, arith}
+use Rattle.std.specs.Prelude.{◌≡◌, ◌≢◌, ◌↔◌, ◌==◌, ℕ, zero, suc, ◌+◌, ◌%◌, ◌<◌, [], ◌∷◌, length, Bool, true, false, slice_get, slice_index_or, if◌then◌else◌, refl}
+use Rattle.std.proofs.Common.{sym, ◌∙◌, ap, arith}
 use Rattle.std.proofs.Math.Nat.{mod-eq_of_lt}
 use Rattle.std.proofs.lemmas.List.Elements.{All-head}
 use borrow.Author.Tests.{eqb-true}
@@ -50,5 +50,6 @@ module _ {F E : Type 0} (r : CommRing F) (a : AlgebraOver F E) (eq : F → F →
       let away : (k : ℕ) → k < length trace.rows → on_row r g k (current 1) ≢ on_row r g row (current 0) = λ k below e.
       none k (omega (arith, below, high)) (sym e ∙ counted first.permutation first.lists k below) in
       let most = tables g (record { accumulator = 0; shares = 1; challenge = 0 }) (current 0) (current 1) (current 2) tt tt tt
-      (record { before = counts_rows r; after = []; is_part = refl }) row (omega (arith, lt, high)) (omega (arith, short, high)) away (alpha ∷ alphas) distinct all in
+      (record { before = counts_rows r; after = []; is_part = refl }) row (omega (arith, lt, high)) (omega (arith, short, high)) away
+      (alpha ∷ alphas) distinct all in
       omega (arith, most, high)

@@ -61,7 +61,8 @@ module _ {A : Type 0} (r : CommRing A) (eq : A → A → Bool) (v : A) where
       ≡ r.mul (r.mul (minus r x v) (r.add d s)) (r.mul (minus r x f) p)
   other_shared f x d s p =
       ring r (x ∷ v ∷ f ∷ d ∷ s ∷ p ∷ [])
-      (plus (times (less (var 0) (var 2)) (times (times (less (var 0) (var 1)) (var 4)) (var 5))) (times (times (less (var 0) (var 2)) (var 3)) (times (less (var 0) (var 1)) (var 5))))
+      (plus (times (less (var 0) (var 2)) (times (times (less (var 0) (var 1)) (var 4)) (var 5)))
+      (times (times (less (var 0) (var 2)) (var 3)) (times (less (var 0) (var 1)) (var 5))))
       (times (times (less (var 0) (var 1)) (plus (var 3) (var 4))) (times (less (var 0) (var 2)) (var 5)))
       refl
 

@@ -16,7 +16,8 @@ module _ {A : Type 0} (r : CommRing A) where
   sum_of-append [] ys = sym (zero_add r (sum_of r ys))
   sum_of-append (x ∷ xs) ys = ap (r.add x) (sum_of-append xs ys) ∙ sym (r.add_assoc x (sum_of r xs) (sum_of r ys))
 
-  shares-append : (alpha : A) (es fs : List (Entry A)) (ds cs : List A) → AreShares r alpha es ds → AreShares r alpha fs cs → AreShares r alpha (es ++ fs) (ds ++ cs)
+  shares-append : (alpha : A) (es fs : List (Entry A)) (ds cs : List A) → AreShares r alpha es ds → AreShares r alpha fs cs
+      → AreShares r alpha (es ++ fs) (ds ++ cs)
   shares-append alpha [] fs [] cs h k = k
   shares-append alpha [] fs (d ∷ ds) cs h k = absurd h
   shares-append alpha (e ∷ es) fs [] cs h k = absurd h
@@ -70,7 +71,8 @@ module _ {F E : Type 0} (r : CommRing F) (a : AlgebraOver F E) (embed_zero : a.e
       row_sum : (i : ℕ) → i < n → SumsTo a.ring alpha (entries_at a (s i) xs) (value a (s i) (shares_term r p.shares xs))
       row_sum i lt = record {
         shares = shares_at (s i) p.shares xs;
-        are_shares = are_shares (s i) p.challenge alpha (rows.challenge_is i lt) p.shares xs (both_vanish (s i) (share_terms p.challenge p.shares xs) _ (vanish i lt)).0;
+        are_shares = are_shares (s i) p.challenge alpha (rows.challenge_is i lt) p.shares xs
+            (both_vanish (s i) (share_terms p.challenge p.shares xs) _ (vanish i lt)).0;
         sum = sym (sum_is (s i) p.shares xs);
       }
 
@@ -81,7 +83,8 @@ module _ {F E : Type 0} (r : CommRing F) (a : AlgebraOver F E) (embed_zero : a.e
 
       joined : (i : ℕ) → i < n → SumsTo a.ring alpha (entries_below a s xs i) (acc i)
           → SumsTo a.ring alpha (entries_below a s xs (suc i)) (value a (s i) (after_term r p xs))
-      joined i lt h = sums_joined a.ring alpha (entries_below a s xs i) (entries_at a (s i) xs) (acc i) (value a (s i) (shares_term r p.shares xs)) h (row_sum i lt)
+      joined i lt h =
+          sums_joined a.ring alpha (entries_below a s xs i) (entries_at a (s i) xs) (acc i) (value a (s i) (shares_term r p.shares xs)) h (row_sum i lt)
 
       -- the entries of the rows before a row sum to its accumulator
       before_sum : (i : ℕ) → i < n → SumsTo a.ring alpha (entries_below a s xs i) (acc i)

@@ -9,17 +9,18 @@ use Rattle.air_field.specs.Ring.{CommRing, minus}
 use Rattle.air_field.specs.laws.Ring.{zero_add, mul_zero, zero_mul, one_mul, mul_left_comm, ring_rules}
 use Rattle.air_field.specs.laws.RingSolver.{var, plus, times, ring}
 use Rattle.air_field.specs.laws.Roots.{few_roots, poly_value}
-use Rattle.air_lookup.specs.Balance.{Entry, sum_of, total}
+use Rattle.air_lookup.specs.Balance.{Entry, sum_of}
 use Rattle.air_lookup.specs.Groups.{denominator, numerator, AreGroupShares, GroupsBalance, entries_of, FewGroupsBalance}
 use Rattle.air_lookup.specs.laws.Balance.{product, cleared, cleared-length, cleared_some, one_of_total}
-use Rattle.air_lookup.specs.laws.Polynomials.{linear, shifted-value, add_scaled, add_scaled-value, one_more, power_zero, raise, raise-length, raise-value, raise_zero}
+use Rattle.air_lookup.specs.laws.Polynomials.{linear, shifted-value, add_scaled, add_scaled-value, one_more, power_zero, raise, raise-length, raise_zero}
 
 module _ {A : Type 0} (r : CommRing A) where
   module _ (alpha : A) where
     denominator-append : (xs ys : List (Entry A)) → denominator r alpha (xs ++ ys) ≡ r.mul (denominator r alpha xs) (denominator r alpha ys)
     denominator-append [] ys = sym (one_mul r (denominator r alpha ys))
     denominator-append (x ∷ xs) ys =
-        ap (r.mul (minus r alpha x.value)) (denominator-append xs ys) ∙ sym (r.mul_assoc (minus r alpha x.value) (denominator r alpha xs) (denominator r alpha ys))
+        ap (r.mul (minus r alpha x.value)) (denominator-append xs ys)
+        ∙ sym (r.mul_assoc (minus r alpha x.value) (denominator r alpha xs) (denominator r alpha ys))
 
     append_none : (d n : A) → n ≡ r.add (r.mul r.zero d) (r.mul r.one n)
     append_none d n = sym (ap₂ r.add (zero_mul r d) (one_mul r n) ∙ zero_add r n)
@@ -67,7 +68,8 @@ module _ {A : Type 0} (r : CommRing A) where
 
     den_step : (f alpha q : A) (e : Entry A) (kept : List (Entry A)) (ps : List A) (b : Bool) → (b ≡ true → f ≡ v)
         → q ≡ r.mul (power r (minus r alpha v) (length kept)) (poly_value r ps alpha)
-        → r.mul (minus r alpha f) q ≡ r.mul (power r (minus r alpha v) (length (cond b (e ∷ kept) kept))) (poly_value r (cond b ps (linear r f r.zero ps)) alpha)
+        → r.mul (minus r alpha f) q
+        ≡ r.mul (power r (minus r alpha v) (length (cond b (e ∷ kept) kept))) (poly_value r (cond b ps (linear r f r.zero ps)) alpha)
     den_step f alpha q e kept ps true same h =
         ap₂ (λ y z. r.mul (minus r alpha y) z) (same refl) h ∙ one_more r (minus r alpha v) (power r (minus r alpha v) (length kept)) (poly_value r ps alpha)
     den_step f alpha q e kept ps false same h =
@@ -76,10 +78,12 @@ module _ {A : Type 0} (r : CommRing A) where
         ∙ ap (r.mul (power r (minus r alpha v) (length kept))) (sym (shifted-value r f ps alpha)))
 
     -- the denominator is a power of alpha - v times the product of the other differences
-    den_is : (alpha : A) (es : List (Entry A)) → denominator r alpha es ≡ r.mul (power r (minus r alpha v) (times_of es)) (poly_value r (product r eq v es) alpha)
+    den_is : (alpha : A) (es : List (Entry A))
+        → denominator r alpha es ≡ r.mul (power r (minus r alpha v) (times_of es)) (poly_value r (product r eq v es) alpha)
     den_is alpha [] = one_value alpha
     den_is alpha (e ∷ es) =
-        den_step e.value alpha (denominator r alpha es) e (filter (λ o. eq o.value v) es) (product r eq v es) (eq e.value v) (decides e.value v).0 (den_is alpha es)
+        den_step e.value alpha (denominator r alpha es) e (filter (λ o. eq o.value v) es) (product r eq v es) (eq e.value v)
+        (decides e.value v).0 (den_is alpha es)
 
     same_num : (d k c m p n q : A) → r.mul k c ≡ r.mul d n → q ≡ r.mul k p → r.mul (r.mul k d) (r.add c (r.mul m p)) ≡ r.mul d (r.add (r.mul m q) (r.mul d n))
     same_num d k c m p n q h i =
@@ -153,7 +157,8 @@ module _ {A : Type 0} (r : CommRing A) (eq : A → A → Bool) (decides : (a b :
       let es : List (Entry A) = entries_of gs in
       let some : r.one ≡ r.zero → ⊥ = one_of_total r eq v decides es other in
       let less : length alphas < length (raise r v 1 (cleared r eq v es)) =
-      few_roots r domain (raise r v 1 (cleared r eq v es)) (λ h. cleared_some r eq v decides domain some es other (raise_zero r v 1 (cleared r eq v es) h)) alphas distinct
+      few_roots r domain (raise r v 1 (cleared r eq v es))
+      (λ h. cleared_some r eq v decides domain some es other (raise_zero r v 1 (cleared r eq v es) h)) alphas distinct
       (All-weaker (λ alpha. GroupsBalance r alpha gs) (λ alpha. poly_value r (raise r v 1 (cleared r eq v es)) alpha ≡ r.zero)
       (λ alpha h. root r eq v decides domain some alpha gs h) alphas all) in
       omega (arith, less, raise-length r v 1 (cleared r eq v es), cleared-length r eq v es)

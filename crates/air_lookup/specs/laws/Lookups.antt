@@ -71,7 +71,8 @@ module _ {A : Type 0} (r : CommRing A) (eq : A → A → Bool) (v : A) where
   total_ones [] = sym (image-zero r)
   total_ones (x ∷ xs) = count_step x (filter (λ y. eq y v) xs) (total r eq v (each_with r.one xs)) (eq x v) (total_ones xs)
 
-  minus_step : (x : A) (f : List A) (t : A) (b : Bool) → t ≡ r.neg (image r (length f)) → cond b (r.add (r.neg r.one) t) t ≡ r.neg (image r (length (cond b (x ∷ f) f)))
+  minus_step : (x : A) (f : List A) (t : A) (b : Bool) → t ≡ r.neg (image r (length f))
+      → cond b (r.add (r.neg r.one) t) t ≡ r.neg (image r (length (cond b (x ∷ f) f)))
   minus_step x f t true h =
       ap (r.add (r.neg r.one)) h
       ∙ (sym (neg_of_add r r.one (image r (length f)))
@@ -87,7 +88,8 @@ values_of : {A : Type 0} (m : A) (xs : List A) → map (λ (e : Entry A). e.valu
 values_of m [] = refl
 values_of m (x ∷ xs) = ap (λ l. x ∷ l) (values_of m xs)
 
-occurrences-append : {A : Type 0} (eq : A → A → Bool) (v : A) (xs ys : List (Entry A)) → length (filter (λ e. eq e.value v) (xs ++ ys)) ≡ length (filter (λ e. eq e.value v) xs) + length (filter (λ e. eq e.value v) ys)
+occurrences-append : {A : Type 0} (eq : A → A → Bool) (v : A) (xs ys : List (Entry A))
+    → length (filter (λ e. eq e.value v) (xs ++ ys)) ≡ length (filter (λ e. eq e.value v) xs) + length (filter (λ e. eq e.value v) ys)
 occurrences-append eq v [] ys = omega arith
 occurrences-append eq v (x ∷ xs) ys =
     let rest = occurrences-append eq v xs ys in

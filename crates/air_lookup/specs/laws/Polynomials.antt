@@ -32,7 +32,8 @@ module _ {A : Type 0} (r : CommRing A) where
   linear-length f k [] = refl
   linear-length f k (c ∷ cs) = ap suc (linear-length f c cs)
 
-  linear_step : (f k c x p : A) → r.add (minus r k (r.mul f c)) (r.mul x (r.add c (r.mul (minus r x f) p))) ≡ r.add k (r.mul (minus r x f) (r.add c (r.mul x p)))
+  linear_step : (f k c x p : A) → r.add (minus r k (r.mul f c)) (r.mul x (r.add c (r.mul (minus r x f) p)))
+      ≡ r.add k (r.mul (minus r x f) (r.add c (r.mul x p)))
   linear_step f k c x p =
       ring r (f ∷ k ∷ c ∷ x ∷ p ∷ [])
       (plus (less (var 1) (times (var 0) (var 2))) (times (var 3) (plus (var 2) (times (less (var 3) (var 0)) (var 4)))))

@@ -8,7 +8,7 @@ use Rattle.air_field.specs.Distinct.{AtMost, Distinct}
 use Rattle.air_field.specs.Domain.{IsDomain}
 use Rattle.air_field.specs.Powers.{power}
 use Rattle.air_field.specs.Ring.{CommRing, AllZero, minus}
-use Rattle.air_field.specs.laws.Ring.{mul_zero, zero_mul, one_mul, neg_zero, mul_left_comm, ring_rules}
+use Rattle.air_field.specs.laws.Ring.{mul_zero, zero_mul, neg_zero, mul_left_comm, ring_rules}
 use Rattle.air_field.specs.laws.RingSolver.{var, times, less, ring}
 use Rattle.air_field.specs.laws.Roots.{few_roots, poly_value, same_of_minus}
 use Rattle.air_lookup.specs.Lookups.{occurrences}
@@ -60,7 +60,8 @@ module _ {A : Type 0} (r : CommRing A) where
     split alpha (x ∷ xs) = split_step x alpha (product_at r alpha xs) (filter (λ y. eq y v) xs) (rest xs) (eq x v) (decides x v).0 (split alpha xs)
 
     module _ (domain : IsDomain r) (some : r.one ≡ r.zero → ⊥) where
-      rest_step : (x : A) (g : List A) (b : Bool) → (b ≡ false → x ≡ v → ⊥) → (product_at r v g ≡ r.zero → ⊥) → product_at r v (cond (not b) (x ∷ g) g) ≡ r.zero → ⊥
+      rest_step : (x : A) (g : List A) (b : Bool) → (b ≡ false → x ≡ v → ⊥) → (product_at r v g ≡ r.zero → ⊥)
+          → product_at r v (cond (not b) (x ∷ g) g) ≡ r.zero → ⊥
       rest_step x g true differs none h = none h
       rest_step x g false differs none h =
           elim (domain (minus r v x) (product_at r v g) h) [ inl same ↦ differs refl (same_of_minus r x v same) | inr e ↦ none e ]
@@ -78,7 +79,8 @@ module _ {A : Type 0} (r : CommRing A) where
         abbrev left : List A
         left = difference r (poly (rest xs)) (raise r v (suc j) (poly (rest ys)))
 
-        left-value : (alpha : A) → poly_value r left alpha ≡ minus r (product_at r alpha (rest xs)) (r.mul (power r (minus r alpha v) (suc j)) (product_at r alpha (rest ys)))
+        left-value : (alpha : A) → poly_value r left alpha
+            ≡ minus r (product_at r alpha (rest xs)) (r.mul (power r (minus r alpha v) (suc j)) (product_at r alpha (rest ys)))
         left-value alpha =
             difference-value r (poly (rest xs)) (raise r v (suc j) (poly (rest ys))) alpha
             ∙ ap₂ (minus r) (poly-value (rest xs) alpha)
@@ -97,7 +99,10 @@ module _ {A : Type 0} (r : CommRing A) where
 
         apart : (q x d y : A) → r.mul q x ≡ r.mul (r.mul q d) y → r.mul q (minus r x (r.mul d y)) ≡ r.zero
         apart q x d y h =
-            ring r (q ∷ x ∷ d ∷ y ∷ []) (times (var 0) (less (var 1) (times (var 2) (var 3)))) (less (times (var 0) (var 1)) (times (times (var 0) (var 2)) (var 3))) refl
+            ring r (q ∷ x ∷ d ∷ y ∷ [])
+            (times (var 0) (less (var 1) (times (var 2) (var 3))))
+            (less (times (var 0) (var 1)) (times (times (var 0) (var 2)) (var 3)))
+            refl
             ∙ (ap (λ z. minus r z (r.mul (r.mul q d) y)) h ∙ r.add_neg (r.mul (r.mul q d) y))
 
         -- if the products agree, a power of alpha - v times this difference is zero
@@ -167,7 +172,8 @@ module _ {A : Type 0} (r : CommRing A) (eq : A → A → Bool) (decides : (a b :
         | inl less ↦ few_agree r v eq decides domain some xs ys (l - suc k) (omega (arith, less)) n hx hy alphas distinct all
         | inr more ↦
             few_agree r v eq decides domain some ys xs (k - suc l) (omega (arith, more, differ)) n hy hx alphas distinct
-            (All-weaker (λ alpha. product_at r alpha xs ≡ product_at r alpha ys) (λ alpha. product_at r alpha ys ≡ product_at r alpha xs) (λ alpha h. sym h) alphas all)
+            (All-weaker (λ alpha. product_at r alpha xs ≡ product_at r alpha ys) (λ alpha. product_at r alpha ys ≡ product_at r alpha xs)
+            (λ alpha h. sym h) alphas all)
       ]
 
   pub few_products_agree : FewProductsAgree r eq

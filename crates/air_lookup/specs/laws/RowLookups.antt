@@ -82,5 +82,6 @@ module _ {A : Type 0} (r : CommRing A) (looked_up offered multiplicity : ℕ →
         → ((k : ℕ) → k < n → offered k ≢ v) → total r eq v (row_entries n) ≢ r.zero
     total_some p has row n lt short is away z =
         let low : times n < p = omega (arith, short, times_at_most n) in
-        let none : times n ≡ 0 = zero_of_image r p has (times n) low (sym (neg_neg r (image r (times n))) ∙ (ap r.neg (sym (total_is n away) ∙ z) ∙ neg_zero r)) in
+        let none : times n ≡ 0 =
+        zero_of_image r p has (times n) low (sym (neg_neg r (image r (times n))) ∙ (ap r.neg (sym (total_is n away) ∙ z) ∙ neg_zero r)) in
         absurd (omega (arith, none, times_some row n lt is))

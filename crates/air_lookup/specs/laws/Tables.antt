@@ -17,16 +17,16 @@ module _ {F E : Type 0} (r : CommRing F) (a : AlgebraOver F E) (laws : AlgebraOv
   row_list : E → E → E → E → List (Entry E)
   row_list m looked_up offered multiplicity = entry looked_up m ∷ entry offered multiplicity ∷ []
 
-  module _ (g : Instance F) (looked_up offered multiplicity : Term F) where
-    abbrev over : Term F → ℕ → E
-    over t i = a.embed (on_row r g i t)
+  abbrev over : Instance F → Term F → ℕ → E
+  over g t i = a.embed (on_row r g i t)
 
-    rows_are : (n : ℕ) → trace_entries r a g (table_lookup r looked_up offered multiplicity) n ≡ row_entries a.ring (over looked_up) (over offered) (over multiplicity) n
-    unfolding entry row_list
-    rows_are zero = refl
-    rows_are (suc n) =
-        ap₂ (λ es fs. es ++ fs) (rows_are n)
-        (ap (λ m. row_list m (over looked_up n) (over offered n) (over multiplicity n)) (embed_neg r a laws r.one ∙ ap a.ring.neg laws.embed_one))
+  rows_are : (g : Instance F) (looked_up offered multiplicity : Term F) (n : ℕ)
+      → trace_entries r a g (table_lookup r looked_up offered multiplicity) n ≡ row_entries a.ring (over g looked_up) (over g offered) (over g multiplicity) n
+  unfolding entry, row_list
+  rows_are g looked_up offered multiplicity zero = refl
+  rows_are g looked_up offered multiplicity (suc n) =
+      ap₂ (λ es fs. es ++ fs) (rows_are g looked_up offered multiplicity n)
+      (ap (λ m. row_list m (over g looked_up n) (over g offered n) (over g multiplicity n)) (embed_neg r a laws r.one ∙ ap a.ring.neg laws.embed_one))
 
   module _ (eq : F → F → Bool) (ext_eq : E → E → Bool) (decides : (x y : E) → (ext_eq x y ≡ true) ↔ (x ≡ y))
       (same_in : (x y : F) → a.embed x ≡ a.embed y → x ≡ y) (p : ℕ) (has : HasCharacteristic a.ring p) where
@@ -34,12 +34,15 @@ module _ {F E : Type 0} (r : CommRing F) (a : AlgebraOver F E) (laws : AlgebraOv
     tables_are_sound few g at looked_up offered multiplicity base_value base_entry base_multiplicity declared row lt short away alphas distinct all =
         let xs = table_lookup r looked_up offered multiplicity in
         let n = row_count g in
-        let v : E = over g looked_up offered multiplicity looked_up row in
-        let rows = row_entries a.ring (over g looked_up offered multiplicity looked_up) (over g looked_up offered multiplicity offered)
-        (over g looked_up offered multiplicity multiplicity) in
-        let is : trace_entries r a g xs n ≡ rows n = rows_are g looked_up offered multiplicity n in
-        let some : total a.ring ext_eq v (rows n) ≢ a.ring.zero =
-        total_some a.ring _ _ _ ext_eq decides v p has row n lt short refl (λ k below same. away k below (same_in _ _ same)) in
+        let v : E = over g looked_up row in
+        let rows = row_entries a.ring (over g looked_up) (over g offered) (over g multiplicity) n in
+        let is : trace_entries r a g xs n ≡ rows = rows_are g looked_up offered multiplicity n in
+        let some : total a.ring ext_eq v rows ≢ a.ring.zero =
+        total_some a.ring (over g looked_up) (over g offered) (over g multiplicity) ext_eq decides v p has row n lt short refl
+        (λ k below same. away k below (same_in _ _ same)) in
         let most : others ext_eq v (trace_entries r a g xs n) ≤ 2 * n =
-        subst (λ es. others ext_eq v es ≤ 2 * n) (sym is) (others_most a.ring _ _ _ ext_eq decides v n) in
-        omega (arith, most, few g at xs (base_value, tt, (base_entry, base_multiplicity, tt)) declared v (λ z. some (ap (total a.ring ext_eq v) (sym is) ∙ z)) alphas distinct all)
+        subst (λ es. others ext_eq v es ≤ 2 * n) (sym is)
+        (others_most a.ring (over g looked_up) (over g offered) (over g multiplicity) ext_eq decides v n) in
+        let passing = few g at xs (base_value, tt, (base_entry, base_multiplicity, tt)) declared v (λ z. some (ap (total a.ring ext_eq v) (sym is) ∙ z))
+        alphas distinct all in
+        omega (arith, most, passing)

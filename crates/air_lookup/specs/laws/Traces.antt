@@ -1,14 +1,14 @@
 -- What an empty report says of a lookup argument.
 use Rattle.std.specs.Prelude.{◌≡◌, ◌↔◌, ◌==◌, if◌then◌else◌}
-use Rattle.std.proofs.Common.{ℕ, zero, suc, ◌+◌, ◌<◌, List, [], ◌∷◌, ◌++◌, length, map, Bool, true, false, slice_get, slice_index_or, refl, sym, ap, ap₂, subst, ◌∙◌, arith, eq-eqb}
+use Rattle.std.proofs.Common.{ℕ, zero, suc, ◌+◌, ◌<◌, List, [], ◌∷◌, ◌++◌, length, map, Bool, true, false, slice_get, slice_index_or, refl, ap, ap₂, subst, ◌∙◌, arith, eq-eqb}
 use Rattle.std.proofs.Math.Nat.{mod-eq_of_lt}
 use borrow.Author.Tests.{eqb-true}
 use Rattle.air_field.specs.Domain.{IsDomain}
 use Rattle.air_field.specs.Ring.{CommRing, AlgebraOver, AlgebraOverLaws}
 use Rattle.air_field.specs.Term.{Leaf}
 use Rattle.air_field.specs.Value.{value}
-use Rattle.air_field.specs.Assignment.{RowValues, row_at, row_or_none}
-use Rattle.air_field.specs.OneRow.{PermutationData, one_row_value}
+use Rattle.air_field.specs.Assignment.{row_at, row_or_none}
+use Rattle.air_field.specs.OneRow.{one_row_value}
 use Rattle.air_field.specs.laws.Distinct.{AtMost-weaker}
 use Rattle.air_builder.specs.Assertion.{Assertion, Base, Extension}
 use Rattle.air_report.specs.Instances.{Instance, instance_trace, row_count}
@@ -91,7 +91,8 @@ module _ {F E : Type 0} (r : CommRing F) (a : AlgebraOver F E) (eq : F → F →
     (laws : AlgebraOverLaws r a) where
   -- if the report is empty, the entries of all rows balance at the challenge
   pub lookup_balances : (g : Instance F) (p : Places) (xs : List (Interaction F)) → Includes (lookup_terms r p xs) g.air.constraints
-      → (q : PermutationTrace E) → ListsNothing r a eq ext_eq g q → Balances a.ring (challenge_of a q p.challenge) (entries_below a (leaves r a g q) xs (row_count g))
+      → (q : PermutationTrace E) → ListsNothing r a eq ext_eq g q
+      → Balances a.ring (challenge_of a q p.challenge) (entries_below a (leaves r a g q) xs (row_count g))
   lookup_balances g p xs has q lists =
       rows_balance r a laws.embed_zero p xs (row_count g) (challenge_of a q p.challenge) (leaves r a g q) (are_rows r a laws g q p.challenge lists.height)
       (part_vanishes r a eq ext_eq decides g q (lookup_terms r p xs) has lists)

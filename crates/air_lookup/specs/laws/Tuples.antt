@@ -2,10 +2,9 @@
 use Rattle.std.specs.Prelude.{◌≡◌, ◌↔◌, ◌<◌, ℕ, zero, suc, List, [], ◌∷◌, ◌++◌, length, Bool, true, refl}
 use Rattle.std.proofs.Common.{subst, sym, ◌∙◌, ap, ap₂, arith}
 use Rattle.std.proofs.lemmas.List.Elements.{All-weaker}
-use Rattle.air_field.specs.Distinct.{FewerThan}
 use Rattle.air_field.specs.Domain.{IsDomain}
 use Rattle.air_field.specs.Ring.{CommRing, AlgebraOver, AlgebraOverLaws, AllZero, minus}
-use Rattle.air_field.specs.Term.{Leaf, preprocessed, main, periodic, public, first_row, last_row, transition, permutation, challenge, permutation_value}
+use Rattle.air_field.specs.Term.{preprocessed, main, periodic, public, first_row, last_row, transition, permutation, challenge, permutation_value}
 use Rattle.air_field.specs.Term.{Term, leaf_term, const_term, ext_const_term, add_term, sub_term, neg_term, mul_term}
 use Rattle.air_field.specs.Value.{value}
 use Rattle.air_field.specs.Assignment.{RowValues, row_at}
