@@ -1,4 +1,4 @@
-use Rattle.std.proofs.Common.{◌≡◌, ℕ, ◌+◌, List, [], ◌∷◌, Bool, Some, subst}
+use Rattle.std.proofs.Common.{◌≡◌, ℕ, ◌+◌, List, [], ◌∷◌, length, Bool, Some, subst}
 use Rattle.std.proofs.lemmas.Result.{on_ok_weaker}
 use Rattle.air_audit.specs.Assertion.{Assertion}
 use Rattle.air_audit.specs.Constraints.{IsLabelled}
@@ -20,17 +20,21 @@ module _ {S F : Type 0} {grew : S → S → List (Assertion F) → Type 0} {labe
       → IsLabelled labelled (FibonacciSays is_named 4) e f w
       → LabelledBy labelled (FibonacciSays is_named) a f (s ∷ t ∷ u ∷ v ∷ w ∷ [])
   all_named named is_named {s = s} {t = t} {u = u} {v = v} {w = w} p q r x y =
-      let from = λ (k i : ℕ). FibonacciSays is_named (k + i) in
-      then_named named (from 0) (s ∷ []) (t ∷ u ∷ v ∷ w ∷ []) (one_named named (from 0) p)
-      (then_named named (from 1) (t ∷ []) (u ∷ v ∷ w ∷ []) (one_named named (from 1) q)
-      (then_named named (from 2) (u ∷ []) (v ∷ w ∷ []) (one_named named (from 2) r)
-      (then_named named (from 3) (v ∷ []) (w ∷ []) (one_named named (from 3) x) (one_named named (from 4) y))))
+      let first = FibonacciSays is_named in
+      let second = λ (i : ℕ). first (length (s ∷ []) + i) in
+      let third = λ (i : ℕ). second (length (t ∷ []) + i) in
+      let fourth = λ (i : ℕ). third (length (u ∷ []) + i) in
+      let fifth = λ (i : ℕ). fourth (length (v ∷ []) + i) in
+      then_named named first (s ∷ []) (t ∷ u ∷ v ∷ w ∷ []) (one_named named first p)
+      (then_named named second (t ∷ []) (u ∷ v ∷ w ∷ []) (one_named named second q)
+      (then_named named third (u ∷ []) (v ∷ w ∷ []) (one_named named third r)
+      (then_named named fourth (v ∷ []) (w ∷ []) (one_named named fourth x) (one_named named fifth y))))
 
 pub returns-clause-labelled : goal.returns-clause-labelled
 returns-clause-labelled g c =
     on_ok_weaker c.assert_all.result
     (λ h. all_named g.met.AB.NamedAirBuilder.named_laws c.args.self.now.is_named
-    (says_too c.label-first_a.ensures h.1.0.1.0) (says_too c.label-first_b.ensures h.1.0.1.1)
-    (says_too c.label-step_a.ensures h.1.1.1.0.1.0) (says_too c.label-step_b.ensures h.1.1.1.0.1.1)
-    (says_too c.label-last_b.ensures h.1.1.1.1))
+    (says_too c.label-first_a.ensures h.1.1) (says_too c.label-first_b.ensures h.1.2)
+    (says_too c.label-step_a.ensures h.2.1.1) (says_too c.label-step_b.ensures h.2.1.2)
+    (says_too c.label-last_b.ensures h.2.2))
     c.assert_all.ensures.labelled

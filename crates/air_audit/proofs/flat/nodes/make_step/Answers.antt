@@ -1,6 +1,7 @@
 use Rattle.std.proofs.Common.{[], ◌∷◌, subst, arith}
+use Rattle.std.proofs.lemmas.List.{get_or_default}
 use Rattle.air_symbolic.specs.BaseLeaves.{base_leaves, base_reads}
-use Rattle.air_symbolic.specs.Nodes.{operands}
+use Rattle.air_symbolic.specs.Nodes.{operands, IsNode}
 use Rattle.air_symbolic.specs.Pools.{term_at}
 use Rattle.air_builder.specs.Builders.{Means}
 use Rattle.air_author.specs.Expressions.{MakesTerm}
@@ -9,7 +10,12 @@ use Rattle.air_audit.proofs.Making.{leaf_made, place_made, at_lasts, both_last, 
 use Rattle.air_audit.proofs.flat.nodes.make_step.Goals as goal
 
 pub make_number-requires-clause-leaf : goal.make_number-requires-clause-leaf
-make_number-requires-clause-leaf g c = ?
+make_number-requires-clause-leaf g c =
+    let ns = c.args.pool.now.nodes in
+    let numbers = c.args.numbers.now in
+    let k = c.args.place in
+    λ n is. leaf_made base_leaves ns numbers k n (subst (λ s. StepMakes base_leaves (IsPlaceOf numbers k) s n) c.in-Leaf.is
+    (c.requires.makes n (subst (λ i. IsNode base_leaves ns i n) (get_or_default numbers k _ 0 c.requires.within) is)))
 
 pub make-requires-in-Add-clause-usable : goal.make-requires-in-Add-clause-usable
 make-requires-in-Add-clause-usable g c =

@@ -1,8 +1,8 @@
-use Rattle.std.proofs.Common.{◌<◌, length, get_or, Ok, Err, arith, subst, sym, ap, ◌∙◌}
+use Rattle.std.proofs.Common.{◌<◌, ◌≤◌, length, get_or, subst, sym, ap, ◌∙◌}
 use Rattle.air_builder.specs.laws.LabelGrowth.{labels_nothing, labelled_more, labelled_refused, labelled_all}
 use Rattle.air_audit.specs.RootLabels.{RootSays}
 use Rattle.air_audit.specs.Tables.{RootHas, AssertsRoot}
-use Rattle.air_audit.proofs.OverRoots.{no_root, root_more, root_refused, all_roots, root_has_kept, root_kept}
+use Rattle.air_audit.proofs.OverRoots.{no_root, root_more, root_refused, root_has_kept, root_kept}
 use Rattle.air_audit.proofs.flat.extension.table.assert_roots.Goals as goal
 
 pub loop-root-init : goal.loop-root-init
@@ -68,3 +68,13 @@ loop-root-preserved g c =
           kept (RootSays c.args.air.now.labels.items) {a = c.args.builder.now} {b = c.loop-root.builder} {c = c.assert_root.new.builder} c.args.air.now.roots.items i
           c.id-item.result lt is c.loop-root.invariant.asserted.keeps c.loop-root.invariant.labelled (λ text said. said) c.in_ok-assert_root.ensures.label;
     }
+
+pub returns-clause-labels : goal.returns-clause-labels
+returns-clause-labels g c =
+    let plan = c.args.air.now.plan in
+    let i = c.loop-root.root in
+    let end = subst (λ v. length v ≤ i) c.deref-id-items.ensures.value c.loop-root-test.false in
+    let kept = root_kept g.met.AB.Ring.Algebra.laws g.met.AB.ExtRing.Algebra.laws g.met.AB.AirBuilder.laws g.met.AB.ExtensionBuilder.ext_laws plan.base_table.items
+    plan.table.items c.args.base.now c.args.table.now in
+    labelled_all g.met.AB.AirBuilder.laws g.met.AB.NamedAirBuilder.named_laws (AssertsRoot _ _ plan.base_table.items plan.table.items c.args.base.now c.args.table.now)
+    kept (RootSays c.args.air.now.labels.items) {a = c.args.builder.now} {b = c.loop-root.builder} c.args.air.now.roots.items i end c.loop-root.invariant.labelled
