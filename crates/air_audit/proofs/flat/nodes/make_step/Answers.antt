@@ -1,4 +1,4 @@
-use Rattle.std.proofs.Common.{[], ◌∷◌, subst, arith}
+use Rattle.std.proofs.Common.{[], ◌∷◌, ◌∙◌, subst, arith}
 use Rattle.std.proofs.lemmas.List.{get_or_default}
 use Rattle.air_symbolic.specs.BaseLeaves.{base_leaves, base_reads}
 use Rattle.air_symbolic.specs.Nodes.{operands, IsNode}
@@ -15,7 +15,7 @@ make_number-requires-clause-leaf g c =
     let numbers = c.args.numbers.now in
     let k = c.args.place in
     λ n is. leaf_made base_leaves ns numbers k n (subst (λ s. StepMakes base_leaves (IsPlaceOf numbers k) s n) c.in-Leaf.is
-    (c.requires.makes n (subst (λ i. IsNode base_leaves ns i n) (get_or_default numbers k _ 0 c.requires.within) is)))
+    (c.requires.makes n (subst (λ i. IsNode base_leaves ns i n) (c.index-numbers-place.is ∙ get_or_default numbers k _ 0 c.requires.within) is)))
 
 pub make-requires-in-Add-clause-usable : goal.make-requires-in-Add-clause-usable
 make-requires-in-Add-clause-usable g c =

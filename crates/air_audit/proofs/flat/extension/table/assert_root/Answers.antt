@@ -1,6 +1,7 @@
 use Rattle.std.proofs.Common.{List, [], ◌∷◌, get_or, String, subst, sym}
 use Rattle.std.specs.Global.{Global}
-use Rattle.air_builder.specs.Batches.{AssertedEach}
+use Rattle.air_builder.specs.Assertion.{Base, Extension}
+use Rattle.air_builder.specs.Batches.{AssertedEach, AssertsOf}
 use Rattle.air_builder.specs.Builders.{Means}
 use Rattle.air_builder.specs.Labels.{LabelledEach}
 use Rattle.air_audit.specs.RootLabels.{RootSays}
@@ -62,7 +63,7 @@ returns-in-Base-clause-label g c =
     (base_long g.met.AB.Ring.Algebra.laws g.met.AB.ExtRing.Algebra.laws g.met.AB.AirBuilder.laws g.met.AB.ExtensionBuilder.ext_laws plan.base_table.items
     plan.table.items c.args.base.now c.args.table.now b c.args.id c.in-Base.id c.in-Base.is c.requires.of_ring)
     c.number.ensures c.index.ensures c.expression_at-x.ensures in
-    let named = subst (λ (ls : List (String Global)). LabelledEach _ g.AB.NamedAirBuilder.labelled (λ i. RootSays ls c.args.root) b d (c.expression_at-x.result ∷ []) c.assert_zero_named.result)
+    let named = subst (λ (ls : List (String Global)). LabelledEach (AssertsOf Base means (λ t. t)) g.AB.NamedAirBuilder.labelled (λ i. RootSays ls c.args.root) b d (c.expression_at-x.result ∷ []) c.assert_zero_named.result)
     c.deref.ensures.value c.assert_zero_named.ensures.label in
     subst (λ r. LabelledEach (AssertsRoot means means_over plan.base_table.items plan.table.items c.args.base.now c.args.table.now) g.AB.NamedAirBuilder.labelled
     (λ i. says) b d (r ∷ []) c.assert_zero_named.result)
@@ -83,8 +84,8 @@ returns-in-Extension-clause-label g c =
     (over_long g.met.AB.Ring.Algebra.laws g.met.AB.ExtRing.Algebra.laws g.met.AB.AirBuilder.laws g.met.AB.ExtensionBuilder.ext_laws plan.base_table.items
     plan.table.items c.args.base.now c.args.table.now b c.args.id c.in-Extension.id c.in-Extension.is c.requires.of_ring)
     c.number-in-Extension.ensures c.index-in-Extension.ensures c.expression_at-x-in-Extension.ensures in
-    let named = subst (λ (ls : List (String Global)). LabelledEach _ g.AB.NamedAirBuilder.labelled (λ i. RootSays ls c.args.root) b d (c.expression_at-x-in-Extension.result ∷ []) c.assert_zero_ext_named.result)
-    c.deref.ensures.value c.assert_zero_ext_named.ensures.label in
+    let named = subst (λ (ls : List (String Global)). LabelledEach (AssertsOf Extension means_over (λ t. t)) g.AB.NamedAirBuilder.labelled (λ i. RootSays ls c.args.root) b d (c.expression_at-x-in-Extension.result ∷ []) c.assert_zero_ext_named.result)
+    c.deref-in-Extension.ensures.value c.assert_zero_ext_named.ensures.label in
     subst (λ r. LabelledEach (AssertsRoot means means_over plan.base_table.items plan.table.items c.args.base.now c.args.table.now) g.AB.NamedAirBuilder.labelled
     (λ i. says) b d (r ∷ []) c.assert_zero_ext_named.result)
     (sym c.in-Extension.is)
