@@ -23,7 +23,7 @@ returns-in_err-air-clause-refused g c =
 pub returns-clause-records : goal.returns-clause-records
 returns-clause-records g c =
     let made = c.in_ok-pool.field-0 in
-    let labelled = c.with_labels-air.ensures in
+    let labelled = c.with_labels.ensures in
     let air = c.in_ok-air.ensures in
     rw (labelled.pool, labelled.roots, air.pool, air.roots)
     (records_terms g.F.Field.ring made.pool made.roots.items (claim_terms g.F.Field.ONE c.args.self) c.in_ok-pool.ensures.means)

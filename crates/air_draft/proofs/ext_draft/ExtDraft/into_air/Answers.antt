@@ -36,7 +36,7 @@ pub returns-clause-records : goal.returns-clause-records
 returns-clause-records g c =
     let extension = g.EF.ExtensionField in
     let made = c.in_ok-pool.field-0 in
-    let labelled = c.with_labels-air.ensures in
+    let labelled = c.with_labels.ensures in
     let air = c.in_ok-air.ensures in
     rw (labelled.pool, labelled.roots, air.pool, air.roots)
     (records_roots g.F.Field.ring extension.over g.met.EF.ExtensionField.over_laws extension.basis made.pool made.roots.items
