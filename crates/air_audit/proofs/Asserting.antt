@@ -1,6 +1,6 @@
 -- The assertion of roots.
 use Rattle.std.specs.List.{AllZip}
-use Rattle.std.proofs.Common.{◌≡◌, ℕ, zero, suc, ◌+◌, ◌<◌, ◌≤◌, List, [], ◌∷◌, length, get_or, slice_get, map, take, All, Some, Result, Ok, Err, inl, inr, refl, sym, arith}
+use Rattle.std.proofs.Common.{◌≡◌, ℕ, zero, suc, ◌+◌, ◌<◌, ◌≤◌, List, [], ◌∷◌, length, get_or, slice_get, map, take, All, Option, Some, Result, Ok, Err, inl, inr, refl, sym, arith}
 use Rattle.std.specs.Result.{IsErrAnd}
 use Rattle.std.proofs.lemmas.List.{length-map}
 use Rattle.air_field.specs.Part.{whole}
@@ -8,6 +8,8 @@ use Rattle.air_field.specs.Term.{Leaf, Term, with_leaves}
 use Rattle.air_core.specs.declared.errors.AirError.{AirError}
 use Rattle.air_builder.specs.Assertion.{Assertion, Base}
 use Rattle.air_builder.specs.laws.Batches.{asserts_kept, asserted_one, grew_one, grew_none, refused_one, nothing_asserted, asserted_more, asserted_refused, asserted_all}
+use Rattle.air_builder.specs.Labels.{Labelled, LabelledEach}
+use Rattle.air_builder.specs.laws.Labels.{labelled_one, one_label, no_label}
 use Rattle.air_builder.specs.laws.Zips.{AllZip-take}
 use Rattle.std.proofs.lemmas.Slice.Zip.{AllZip-long}
 use Rattle.air_builder.specs.Batches.{AssertsOf, AssertedEach, AssertedList, OrMemory}
@@ -41,6 +43,15 @@ each_asserts means missing b table term (p ∷ places) h =
     let x = h 0 p (omega arith) in
     ((x.0, x.1, (term p, x.2.meant, refl)), each_asserts means missing b table term places (all_rest (λ q. HasAt (IsMade means missing b (term q)) table q) p places h))
 
+-- one element was asserted under a label, or refused, as another is
+pub labelled_as_another : {S I J F : Type 0} {asserts : S → I → Assertion F → Type 0} {other : S → J → Assertion F → Type 0} {labelled : S → S → List (Labelled F) → Type 0}
+    {says : Option (List ℕ) → Type 0} (b c : S) (x : I) (y : J) (r : Result (Unit {0}) AirError) → ((s : Assertion F) → other b y s → asserts b x s)
+    → LabelledEach asserts labelled (λ i. says) b c (x ∷ []) r → LabelledEach other labelled (λ i. says) b c (y ∷ []) r
+labelled_as_another b c x y (Ok u) f h =
+    let one = one_label h in
+    labelled_one (Ok u) (record { label = one.label; said = one.said; grown = λ s k. one.grown s (f s k) }) tt
+labelled_as_another b c x y (Err e) f h = labelled_one (Err e) tt (no_label h)
+
 module _ {S R E F : Type 0} {view : BuilderView S R E F} (ring : RingLaws view) (laws : BuilderLaws view) where
   open view use {has, ring_of, reads_as, kept, grew, missing, refuses}
 
@@ -52,7 +63,7 @@ module _ {S R E F : Type 0} {view : BuilderView S R E F} (ring : RingLaws view) 
   pub element_stays : (a b : S) (table : List E) (p : ℕ) (x : E) → kept a b → HasAt (has (ring_of a)) table p → slice_get table p ≡ Some x → has (ring_of b) x
   element_stays a b table p x k h at = read_is (has (ring_of b)) table p x (h.0, h.1, ring.has_stays (ring_of a) (ring_of b) h.0 (laws.ring_kept a b k) h.2) at
 
-  asserts_at_kept : (table : List E) (a b : S) → kept a b → (p : ℕ) (s : Assertion F) → AssertsAt (MeansIn view) table a p s → AssertsAt (MeansIn view) table b p s
+  pub asserts_at_kept : (table : List E) (a b : S) → kept a b → (p : ℕ) (s : Assertion F) → AssertsAt (MeansIn view) table a p s → AssertsAt (MeansIn view) table b p s
   asserts_at_kept table a b k p s h = (h.0, h.1, asserts_kept ring laws Base (λ t. t) a b k h.0 s h.2)
 
   -- one element was asserted, or refused, as another is

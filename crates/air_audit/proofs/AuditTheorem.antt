@@ -5,7 +5,7 @@ use Rattle.std.proofs.Math.Nat.{le-max_left, le-max_right, le_of_mul-le-mul_righ
 use Rattle.air_field.specs.Ring.{CommRing, self_algebra}
 use Rattle.air_field.specs.Extension.{Basis}
 use Rattle.air_field.specs.Term.{Leaf, Term, leaf_term, const_term, ext_const_term, add_term, sub_term, neg_term, mul_term}
-use Rattle.air_field.specs.Degree.{degree_by, transition_weight, greatest_degree}
+use Rattle.air_field.specs.Degree.{degree_by, transition_weight}
 use Rattle.air_field.specs.Same.{Simplifies}
 use Rattle.air_field.specs.declared.errors.RingError.{RingError}
 use Rattle.air_field.specs.declared.errors.RingError.TheVariants.{Memory, DegreeOverflow}
@@ -17,7 +17,7 @@ use Rattle.air_builder.specs.Declaration.{Declaration}
 use Rattle.air_core.specs.Errors.{air_error}
 use Rattle.air_core.specs.declared.errors.AirError.{AirError}
 use Rattle.air_core.specs.declared.errors.AirError.TheVariants.{LayoutMainWidth, LayoutPublicValues, LayoutPeriodicColumns}
-use Rattle.air_recording.specs.Bounds.{IsDegreeFor, domain_weight}
+use Rattle.air_recording.specs.Bounds.{IsDegreeFor, domain_degree}
 use Rattle.air_recording.specs.Folds.{ArePlacesOf}
 use Rattle.air_recording.specs.Inferred.{AnswersInferred, periods_of, recorded_terms}
 use Rattle.air_recording.specs.Kinds.{kind_of, base_terms, ext_terms}
@@ -48,10 +48,10 @@ scaled_least w k (neg_term t) = scaled_least w k t
 scaled_least w k (mul_term t u) =
     omega (arith, scaled_least w k t, scaled_least w k u, add-mul (degree_by w t) (degree_by w u) k)
 
--- the weights by which a domain counts
-pub weight_is : {F : Type 0} (x : Instance F) (w : ℕ) → domain_weight w (row_count x) (periods_of x.air.periodic) ≡ (domain w x).weight
-weight_is x zero = refl
-weight_is x (suc w) = refl
+-- the degree that air_recording infers
+inferred_is : {F : Type 0} (x : Instance F) (ts : List (Term F)) (w : ℕ) → domain_degree w (row_count x) (periods_of x.air.periodic) ts ≡ degree_in w x ts
+inferred_is x ts zero = refl
+inferred_is x ts (suc w) = refl
 
 module _ {F : Type 0} (r : CommRing F) (x : Instance F) (ts : List (Term F)) (d : ℕ) where
   abbrev IsInferredDegree : ℕ → Type 0
@@ -61,7 +61,7 @@ module _ {F : Type 0} (r : CommRing F) (x : Instance F) (ts : List (Term F)) (d 
   degree_is zero h = h.value
   degree_is (suc w) h = h.value
 
-  degree_in_range : (w : ℕ) → IsInferredDegree w → greatest_degree (domain w x).weight ts < 2 ^ 64
+  degree_in_range : (w : ℕ) → IsInferredDegree w → degree_in w x ts < 2 ^ 64
   degree_in_range zero h = h.fits
   degree_in_range (suc w) h = h.fits
 
@@ -156,4 +156,4 @@ module _ {F : Type 0} (r : CommRing F) (eq : F → F → Bool) (x : Instance F) 
       recorded = record { each_base = each_base (RecordsTerm (self_algebra r)) us x.air.constraints m; each_ext = each_ext (RecordsTerm (self_algebra r)) vs x.air.constraints n }
 
       passes : DegreeOverflows r w x
-      passes = record { base = us; ext = vs; recorded = recorded; past = subst (λ v. 2 ^ 64 ≤ greatest_degree v (us ++ vs)) (weight_is x w) h }
+      passes = record { base = us; ext = vs; recorded = recorded; past = subst (λ d. 2 ^ 64 ≤ d) (inferred_is x (us ++ vs) w) h }

@@ -99,7 +99,7 @@ module _ {F EF : Type 0} (basis : Basis F EF) (p : ExtNodes F EF) where
 
   -- what a node holds is of the base pool
   held_here : (j : ℕ) (n : SymbolicExpr (ExtLeaf F EF)) → IsNode (ext_reads basis p.base) p.nodes j n → All (λ i. i < size p.base) (lifted_of n)
-  held_here j (node.Leaf (leaf.Base i)) is = all_and (λ v. v < size p.base) i [] is.fits.here (no_elements (λ v. v < size p.base))
+  held_here j (node.Leaf (leaf.Base i)) is = all_and (λ v. v < size p.base) i [] is.fits.valid.here (no_elements (λ v. v < size p.base))
   held_here j (node.Leaf (leaf.ExtVariable v)) is = no_elements (λ i. i < size p.base)
   held_here j (node.Leaf (leaf.ExtConstant c)) is = no_elements (λ i. i < size p.base)
   held_here j (node.Add x y d) is = no_elements (λ i. i < size p.base)

@@ -1,6 +1,8 @@
 -- Making the expressions of numbers.
-use Rattle.std.proofs.Common.{◌≡◌, ◌<◌, ℕ, List, [], length, get_or, slice_get, Option, Some, Ok, Err, sym, ap, ap₂, subst, ◌∙◌, arith}
+use Rattle.std.specs.List.{AllZip}
+use Rattle.std.proofs.Common.{◌≡◌, ◌<◌, ℕ, List, [], ◌∷◌, All, length, get_or, slice_get, Option, Some, Ok, Err, sym, ap, ap₂, subst, ◌∙◌, arith}
 use Rattle.std.proofs.lemmas.List.{get_or_default}
+use Rattle.std.proofs.lemmas.List.Elements.{All-nil, All-cons}
 use Rattle.air_field.specs.Term.{Leaf, main, Term, leaf_term, add_term, sub_term, neg_term, mul_term}
 use Rattle.air_core.specs.declared.errors.AirError.TheVariants.{RowOffset}
 use Rattle.air_symbolic.specs.Leaves.{Leaves}
@@ -16,7 +18,8 @@ use Rattle.air_author.specs.laws.Each.{of_one}
 use Rattle.air_author.specs.Handing.{each_weaker, made_lasts}
 use Rattle.air_symbolic.specs.laws.Sharing.{found}
 use Rattle.air_audit.specs.declared.flat.step.Step.{Step}
-use Rattle.air_audit.specs.Plans.{number_at, IsPlaceOf, MakesPlace, StepMakes, column_of, IsColumn, IsSumOf, IsDifferenceOf, IsNegativeOf, IsProductOf}
+use Rattle.air_audit.specs.declared.flat.step.Step.TheVariants as step
+use Rattle.air_audit.specs.Plans.{number_at, IsPlaceOf, MakesPlace, StepMakes, IsLeaf, column_of}
 use Rattle.air_audit.specs.Tables.{IsMade, HasAt, HasNumber, TableMade}
 
 -- what a table has at a place is what is read there
@@ -44,73 +47,48 @@ column_term o c _ h = absurd (cc h)
 
 -- the terms of nodes that steps make
 module _ {A F : Type 0} (l : Leaves A F) (ns : List (SymbolicExpr A)) (numbers : List ℕ) (k : ℕ) where
-  pub main_term : (i o c : ℕ) (n : SymbolicExpr A) → IsNode l ns i n → IsColumn l o c n → leaf_term (main o c) ≡ term_of l.term (tree_of ns i)
-  main_term i o c (node.Leaf a) is h = column_term o c (l.term a) h ∙ sym is.term
-  main_term i o c (node.Add x y d) is h = absurd h
-  main_term i o c (node.Sub x y d) is h = absurd h
-  main_term i o c (node.Neg x d) is h = absurd h
-  main_term i o c (node.Mul x y d) is h = absurd h
+  pub current_term : (i c : ℕ) (n : SymbolicExpr A) → IsNode l ns i n → StepMakes l (IsPlaceOf numbers k) (step.Current c) n → leaf_term (main 0 c) ≡ term_of l.term (tree_of ns i)
+  current_term i c (node.Leaf a) is h = column_term 0 c (l.term a) h.0 ∙ sym is.term
+  current_term i c _ is h = absurd h.0
 
-  pub sum_term : (i p q : ℕ) (n : SymbolicExpr A) → IsNode l ns i n → IsSumOf (IsPlaceOf numbers k p) (IsPlaceOf numbers k q) n → add_term (term_of l.term (tree_of ns (number_at numbers p))) (term_of l.term (tree_of ns (number_at numbers q))) ≡ term_of l.term (tree_of ns i)
-  sum_term i p q (node.Leaf a) is h = absurd h
-  sum_term i p q (node.Add x y d) is h = sym (is.term ∙ ap₂ (λ u v. add_term (term_of l.term (tree_of ns u)) (term_of l.term (tree_of ns v))) h.0.1 h.1.1)
-  sum_term i p q (node.Sub x y d) is h = absurd h
-  sum_term i p q (node.Neg x d) is h = absurd h
-  sum_term i p q (node.Mul x y d) is h = absurd h
+  pub next_term : (i c : ℕ) (n : SymbolicExpr A) → IsNode l ns i n → StepMakes l (IsPlaceOf numbers k) (step.Next c) n → leaf_term (main 1 c) ≡ term_of l.term (tree_of ns i)
+  next_term i c (node.Leaf a) is h = column_term 1 c (l.term a) h.0 ∙ sym is.term
+  next_term i c _ is h = absurd h.0
 
-  pub difference_term : (i p q : ℕ) (n : SymbolicExpr A) → IsNode l ns i n → IsDifferenceOf (IsPlaceOf numbers k p) (IsPlaceOf numbers k q) n → sub_term (term_of l.term (tree_of ns (number_at numbers p))) (term_of l.term (tree_of ns (number_at numbers q))) ≡ term_of l.term (tree_of ns i)
-  difference_term i p q (node.Leaf a) is h = absurd h
-  difference_term i p q (node.Add x y d) is h = absurd h
-  difference_term i p q (node.Sub x y d) is h = sym (is.term ∙ ap₂ (λ u v. sub_term (term_of l.term (tree_of ns u)) (term_of l.term (tree_of ns v))) h.0.1 h.1.1)
-  difference_term i p q (node.Neg x d) is h = absurd h
-  difference_term i p q (node.Mul x y d) is h = absurd h
+  pub sum_term : (i p q : ℕ) (n : SymbolicExpr A) → IsNode l ns i n → StepMakes l (IsPlaceOf numbers k) (step.Add p q) n → add_term (term_of l.term (tree_of ns (number_at numbers p))) (term_of l.term (tree_of ns (number_at numbers q))) ≡ term_of l.term (tree_of ns i)
+  sum_term i p q (node.Add x y d) is h = sym (is.term ∙ ap₂ (λ u v. add_term (term_of l.term (tree_of ns u)) (term_of l.term (tree_of ns v))) h.1.0.1 h.1.1.0.1)
+  sum_term i p q _ is h = absurd h.0
 
-  pub negative_term : (i p : ℕ) (n : SymbolicExpr A) → IsNode l ns i n → IsNegativeOf (IsPlaceOf numbers k p) n → neg_term (term_of l.term (tree_of ns (number_at numbers p))) ≡ term_of l.term (tree_of ns i)
-  negative_term i p (node.Leaf a) is h = absurd h
-  negative_term i p (node.Add x y d) is h = absurd h
-  negative_term i p (node.Sub x y d) is h = absurd h
-  negative_term i p (node.Neg x d) is h = sym (is.term ∙ ap (λ u. neg_term (term_of l.term (tree_of ns u))) h.1)
-  negative_term i p (node.Mul x y d) is h = absurd h
+  pub difference_term : (i p q : ℕ) (n : SymbolicExpr A) → IsNode l ns i n → StepMakes l (IsPlaceOf numbers k) (step.Sub p q) n → sub_term (term_of l.term (tree_of ns (number_at numbers p))) (term_of l.term (tree_of ns (number_at numbers q))) ≡ term_of l.term (tree_of ns i)
+  difference_term i p q (node.Sub x y d) is h = sym (is.term ∙ ap₂ (λ u v. sub_term (term_of l.term (tree_of ns u)) (term_of l.term (tree_of ns v))) h.1.0.1 h.1.1.0.1)
+  difference_term i p q _ is h = absurd h.0
 
-  pub product_term : (i p q : ℕ) (n : SymbolicExpr A) → IsNode l ns i n → IsProductOf (IsPlaceOf numbers k p) (IsPlaceOf numbers k q) n → mul_term (term_of l.term (tree_of ns (number_at numbers p))) (term_of l.term (tree_of ns (number_at numbers q))) ≡ term_of l.term (tree_of ns i)
-  product_term i p q (node.Leaf a) is h = absurd h
-  product_term i p q (node.Add x y d) is h = absurd h
-  product_term i p q (node.Sub x y d) is h = absurd h
-  product_term i p q (node.Neg x d) is h = absurd h
-  product_term i p q (node.Mul x y d) is h = sym (is.term ∙ ap₂ (λ u v. mul_term (term_of l.term (tree_of ns u)) (term_of l.term (tree_of ns v))) h.0.1 h.1.1)
+  pub negative_term : (i p : ℕ) (n : SymbolicExpr A) → IsNode l ns i n → StepMakes l (IsPlaceOf numbers k) (step.Neg p) n → neg_term (term_of l.term (tree_of ns (number_at numbers p))) ≡ term_of l.term (tree_of ns i)
+  negative_term i p (node.Neg x d) is h = sym (is.term ∙ ap (λ u. neg_term (term_of l.term (tree_of ns u))) h.1.0.1)
+  negative_term i p _ is h = absurd h.0
+
+  pub product_term : (i p q : ℕ) (n : SymbolicExpr A) → IsNode l ns i n → StepMakes l (IsPlaceOf numbers k) (step.Mul p q) n → mul_term (term_of l.term (tree_of ns (number_at numbers p))) (term_of l.term (tree_of ns (number_at numbers q))) ≡ term_of l.term (tree_of ns i)
+  product_term i p q (node.Mul x y d) is h = sym (is.term ∙ ap₂ (λ u v. mul_term (term_of l.term (tree_of ns u)) (term_of l.term (tree_of ns v))) h.1.0.1 h.1.1.0.1)
+  product_term i p q _ is h = absurd h.0
+
+  pub gate_term : (i p q : ℕ) (n : SymbolicExpr A) → IsNode l ns i n → StepMakes l (IsPlaceOf numbers k) (step.Gate p q) n → mul_term (term_of l.term (tree_of ns (number_at numbers p))) (term_of l.term (tree_of ns (number_at numbers q))) ≡ term_of l.term (tree_of ns i)
+  gate_term i p q (node.Mul x y d) is h = sym (is.term ∙ ap₂ (λ u v. mul_term (term_of l.term (tree_of ns u)) (term_of l.term (tree_of ns v))) h.1.0.1 h.1.1.0.1)
+  gate_term i p q _ is h = absurd h.0
+
+  -- the node of a step that is a leaf
+  pub leaf_made : (n : SymbolicExpr A) → StepMakes l (IsPlaceOf numbers k) step.Leaf n → IsLeaf n
+  leaf_made (node.Leaf a) h = tt
+  leaf_made _ h = absurd h.0
 
   -- the node that a step makes
   pub place_made : WellFormed l ns → number_at numbers k < length ns → (s : Step) → MakesPlace l ns numbers k s → (n : SymbolicExpr A) × IsNode l ns (number_at numbers k) n × StepMakes l (IsPlaceOf numbers k) s n
   place_made wf here s makes = let f : (n : SymbolicExpr A) × IsNode l ns (number_at numbers k) n = found l ns wf (number_at numbers k) here in (f.0, f.1, makes f.0 f.1)
 
-  -- the places of a step's operands are before it
-  pub sum_before : (p q : ℕ) (n : SymbolicExpr A) → IsSumOf (IsPlaceOf numbers k p) (IsPlaceOf numbers k q) n → (p < k) × (q < k)
-  sum_before p q (node.Leaf a) h = absurd h
-  sum_before p q (node.Add x y d) h = (h.0.0, h.1.0)
-  sum_before p q (node.Sub x y d) h = absurd h
-  sum_before p q (node.Neg x d) h = absurd h
-  sum_before p q (node.Mul x y d) h = absurd h
-
-  pub difference_before : (p q : ℕ) (n : SymbolicExpr A) → IsDifferenceOf (IsPlaceOf numbers k p) (IsPlaceOf numbers k q) n → (p < k) × (q < k)
-  difference_before p q (node.Leaf a) h = absurd h
-  difference_before p q (node.Add x y d) h = absurd h
-  difference_before p q (node.Sub x y d) h = (h.0.0, h.1.0)
-  difference_before p q (node.Neg x d) h = absurd h
-  difference_before p q (node.Mul x y d) h = absurd h
-
-  pub negative_before : (p : ℕ) (n : SymbolicExpr A) → IsNegativeOf (IsPlaceOf numbers k p) n → p < k
-  negative_before p (node.Leaf a) h = absurd h
-  negative_before p (node.Add x y d) h = absurd h
-  negative_before p (node.Sub x y d) h = absurd h
-  negative_before p (node.Neg x d) h = h.0
-  negative_before p (node.Mul x y d) h = absurd h
-
-  pub product_before : (p q : ℕ) (n : SymbolicExpr A) → IsProductOf (IsPlaceOf numbers k p) (IsPlaceOf numbers k q) n → (p < k) × (q < k)
-  product_before p q (node.Leaf a) h = absurd h
-  product_before p q (node.Add x y d) h = absurd h
-  product_before p q (node.Sub x y d) h = absurd h
-  product_before p q (node.Neg x d) h = absurd h
-  product_before p q (node.Mul x y d) h = (h.0.0, h.1.0)
+-- places that have numbers are before place k
+pub places_before : (numbers : List ℕ) (k : ℕ) (places is : List ℕ) → AllZip (IsPlaceOf numbers k) places is → All (λ p. p < k) places
+places_before numbers k [] is h = All-nil (λ p. p < k)
+places_before numbers k (p ∷ places) [] h = absurd h
+places_before numbers k (p ∷ places) (i ∷ is) h = All-cons (λ p. p < k) p places h.0.0 (places_before numbers k places is h.1)
 
 module _ {S R B F : Type 0} {view : BuilderView S R B F} (laws : BuilderLaws view) where
   open view use {grew, missing, refuses}

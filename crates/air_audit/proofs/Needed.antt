@@ -1,7 +1,8 @@
 -- What roots need, and the table of expressions, one place after another.
 use Rattle.std.specs.List.{AllZip, Any, list_any}
-use Rattle.std.proofs.Common.{◌≡◌, ◌⊎◌, ◌≤◌, ◌||◌, ℕ, zero, suc, ◌+◌, ◌<◌, List, [], ◌∷◌, ◌++◌, length, get_or, slice_get, map, All, Bool, true, false, eqb, Some, inl, inr, refl, sym, subst, ap, ◌∙◌, arith, ⊎_elim}
+use Rattle.std.proofs.Common.{◌≡◌, ◌⊎◌, ◌≤◌, ◌||◌, ℕ, zero, suc, ◌+◌, ◌<◌, List, [], ◌∷◌, ◌++◌, length, get_or, slice_get, map, All, Contains, Bool, true, false, eqb, Some, inl, inr, refl, sym, subst, ap, ◌∙◌, arith, ⊎_elim}
 use Rattle.std.proofs.lemmas.List.{get_or_default, get_or_append_left, get_or_push, length_push}
+use Rattle.std.proofs.lemmas.List.Elements.{All-contains}
 use Rattle.std.proofs.lemmas.List.Folds.{Any-from_list_any}
 use Rattle.std.proofs.lemmas.Slice.Zip.{AllZip-map}
 use Rattle.std.proofs.lemmas.Simd.{map-map}
@@ -11,7 +12,8 @@ use Rattle.air_field.specs.Part.{Part, whole, in_add_left, in_add_right, in_sub_
 use Rattle.air_builder.specs.laws.Parts.{part_of_in}
 use Rattle.air_symbolic.specs.Leaves.{Leaves}
 use Rattle.air_symbolic.specs.Trees.{term_of}
-use Rattle.air_symbolic.specs.Nodes.{node_term, tree_of, IsNode, OperandsBelow, WellFormed}
+use Rattle.air_symbolic.specs.Nodes.{node_term, tree_of, operands, IsNode, WellFormed}
+use Rattle.air_symbolic.specs.laws.Nodes.{no_operand, the_operand, one_of_two}
 use Rattle.air_symbolic.specs.laws.Sharing.{found}
 use Rattle.air_symbolic.specs.declared.pools.expr.SymbolicExpr.{SymbolicExpr}
 use Rattle.air_symbolic.specs.declared.pools.expr.SymbolicExpr.TheVariants as node
@@ -28,14 +30,11 @@ module _ {A F : Type 0} (f : A → Term F) (at : ℕ → Term F) where
   same_part i x e = subst (λ k. Part (at i) (at k)) e whole
 
   operand_part : (i : ℕ) (n : SymbolicExpr A) → IsOperand i n → Part (at i) (node_term f at n)
-  operand_part i (node.Leaf a) p = absurd p
-  operand_part i (node.Add x y d) (inl e) = in_add_left (same_part i x e)
-  operand_part i (node.Add x y d) (inr e) = in_add_right (same_part i y e)
-  operand_part i (node.Sub x y d) (inl e) = in_sub_left (same_part i x e)
-  operand_part i (node.Sub x y d) (inr e) = in_sub_right (same_part i y e)
-  operand_part i (node.Neg x d) e = in_neg (same_part i x e)
-  operand_part i (node.Mul x y d) (inl e) = in_mul_left (same_part i x e)
-  operand_part i (node.Mul x y d) (inr e) = in_mul_right (same_part i y e)
+  operand_part i (node.Leaf a) p = absurd (no_operand i p)
+  operand_part i (node.Add x y d) p = ⊎_elim (λ e. in_add_left (same_part i x e)) (λ e. in_add_right (same_part i y e)) (one_of_two i x y p)
+  operand_part i (node.Sub x y d) p = ⊎_elim (λ e. in_sub_left (same_part i x e)) (λ e. in_sub_right (same_part i y e)) (one_of_two i x y p)
+  operand_part i (node.Neg x d) p = in_neg (same_part i x (the_operand i x p))
+  operand_part i (node.Mul x y d) p = ⊎_elim (λ e. in_mul_left (same_part i x e)) (λ e. in_mul_right (same_part i y e)) (one_of_two i x y p)
 
 eqb_true : (i x : ℕ) → eqb i x ≡ true → i ≡ x
 eqb_true i x e = grind (arith, e)
@@ -44,28 +43,11 @@ either : (a b : Bool) → (a || b) ≡ true → (a ≡ true) ⊎ (b ≡ true)
 either true b e = inl refl
 either false b e = inr e
 
-not_true : false ≡ true → ⊥
-not_true e = cc
-
-either_operand : (i x y : ℕ) → (eqb i x || eqb i y) ≡ true → (i ≡ x) ⊎ (i ≡ y)
-either_operand i x y e = ⊎_elim (λ (a : eqb i x ≡ true). inl (eqb_true i x a)) (λ (b : eqb i y ≡ true). inr (eqb_true i y b)) (either (eqb i x) (eqb i y) e)
-
 is_operand : {A : Type 0} (i : ℕ) (n : SymbolicExpr A) → has_operand i n ≡ true → IsOperand i n
-is_operand i (node.Leaf a) e = not_true e
-is_operand i (node.Add x y d) e = either_operand i x y e
-is_operand i (node.Sub x y d) e = either_operand i x y e
-is_operand i (node.Neg x d) e = eqb_true i x e
-is_operand i (node.Mul x y d) e = either_operand i x y e
-
-operand_less : {A : Type 0} (i j : ℕ) (n : SymbolicExpr A) → IsOperand i n → OperandsBelow j n → i < j
-operand_less i j (node.Leaf a) is b = absurd is
-operand_less i j (node.Add x y d) (inl e) b = omega (arith, e, b.0)
-operand_less i j (node.Add x y d) (inr e) b = omega (arith, e, b.1)
-operand_less i j (node.Sub x y d) (inl e) b = omega (arith, e, b.0)
-operand_less i j (node.Sub x y d) (inr e) b = omega (arith, e, b.1)
-operand_less i j (node.Neg x d) e b = omega (arith, e, b)
-operand_less i j (node.Mul x y d) (inl e) b = omega (arith, e, b.0)
-operand_less i j (node.Mul x y d) (inr e) b = omega (arith, e, b.1)
+is_operand i n e = equal_in (Any-from_list_any (λ x. eqb i x) (operands n) e)
+  where
+    equal_in : Any (λ x. eqb i x ≡ true) (operands n) → Contains (operands n) i
+    equal_in (k, x, lt, is, same) = (k, lt, subst (λ d. get_or (operands n) k d ≡ d) (sym (eqb_true i x same)) is)
 
 module _ {A F : Type 0} (l : Leaves A F) (ns : List (SymbolicExpr A)) where
   -- a list that has the roots' terms as parts has those of all that they reach
@@ -94,7 +76,7 @@ module _ {A F : Type 0} (l : Leaves A F) (ns : List (SymbolicExpr A)) where
         let here : j < length ns = subst (λ v. v < length ns) same (in_pool q q_in) in
         let f : (n : SymbolicExpr A) × IsNode l ns j n = found l ns wf j here in
         let p : IsOperand i f.0 = is_operand i f.0 (subst (λ o. some_has_operand i o ≡ true) f.1.node e) in
-        let less = operand_less i j f.0 p f.1.below in
+        let less = All-contains (λ x. x < j) (operands f.0) i f.1.below p in
         operand (subst (λ v. ReachedFrom l ns roots v) same (earlier q q_in (omega (arith, far, less, same)))) f.1 p
 
     -- the roots reach each number

@@ -121,7 +121,7 @@ module _ {S R X B E F EF : Type 0} {view : BuilderView S R B F} {over : Extensio
   abbrev asserts : S → Root F EF → Assertion F → Type 0
   asserts = AssertsRoot (MeansIn view) (MeansIn (over_view view over)) base_places places base table
 
-  root_kept : (a b : S) → kept a b → (r : Root F EF) (s : Assertion F) → asserts a r s → asserts b r s
+  pub root_kept : (a b : S) → kept a b → (r : Root F EF) (s : Assertion F) → asserts a r s → asserts b r s
   root_kept a b k (root.Base i) s h = (h.0, h.1, asserts_kept ring laws Base (λ t. t) a b k h.0 s h.2)
   root_kept a b k (root.Extension i) s h = (h.0, h.1, asserts_kept over_ring (over_extension laws extension) Extension (λ t. t) a b k h.0 s h.2)
 

@@ -1,75 +1,32 @@
 -- The plan of roots.
 use Rattle.std.specs.List.{AllZip, list_any}
 use Rattle.std.proofs.Common.{slice_get, ◌≡◌, ◌⊎◌, ◌≤◌, ◌||◌, ℕ, zero, suc, ◌+◌, ◌<◌, List, [], ◌∷◌, ◌++◌, length, get_or, All, Bool, true, false, eqb, Option, None, Some, inl, inr, refl, sym, subst, ap, ◌∙◌, arith, ⊎_elim}
+use Rattle.std.proofs.lemmas.List.Elements.{All-head, All-tail, All-contains}
 use Rattle.std.proofs.lemmas.List.Folds.{list_any_at}
 use Rattle.std.proofs.Math.ListN.{get_or-eq_default}
 use Rattle.std.proofs.lemmas.List.{get_or_default, get_or_append_left, get_or_push}
 use Rattle.air_symbolic.specs.Leaves.{Leaves}
-use Rattle.air_symbolic.specs.Nodes.{IsNode, OperandsBelow}
+use Rattle.air_symbolic.specs.Nodes.{operands, IsNode, OperandsBelow}
 use Rattle.air_symbolic.specs.Reach.{EachOperand, IsOperand, Marked, Reached, ReachedFrom, root, operand}
 use Rattle.air_symbolic.specs.declared.pools.expr.SymbolicExpr.{SymbolicExpr}
-use Rattle.air_symbolic.specs.declared.pools.expr.SymbolicExpr.TheVariants as node
 use Rattle.air_audit.specs.declared.flat.step.Step.{Step}
 use Rattle.air_audit.specs.declared.flat.step.Step.TheVariants as step
-use Rattle.air_audit.specs.Plans.{number_at, IsPlaceOf, StepMakes, MakesPlace, AreSteps, has_operand, some_has_operand, IsUsed, IsPlan, HavePlaces}
+use Rattle.air_audit.specs.Plans.{number_at, IsPlaceOf, step_places, StepMakes, MakesPlace, AreSteps, has_operand, some_has_operand, IsUsed, IsPlan, HavePlaces}
 use Rattle.air_audit.specs.ExtPlans.{HaveRoots, IsOrder}
 
 -- operands below k
 pub each_below : {A : Type 0} (P Q : ℕ → Type 0) (k : ℕ) (n : SymbolicExpr A) → ((i : ℕ) → i < k → P i → Q i) → OperandsBelow k n → EachOperand P n → EachOperand Q n
-each_below P Q k (node.Leaf a) f b h = tt
-each_below P Q k (node.Add x y d) f b h = (f x b.0 h.0, f y b.1 h.1)
-each_below P Q k (node.Sub x y d) f b h = (f x b.0 h.0, f y b.1 h.1)
-each_below P Q k (node.Neg x d) f b h = f x b h
-each_below P Q k (node.Mul x y d) f b h = (f x b.0 h.0, f y b.1 h.1)
+each_below P Q k n f b h = λ j d lt. f _ (b j d lt) (h j d lt)
 
 pub each_within : {A : Type 0} (k m : ℕ) (n : SymbolicExpr A) → k ≤ m → OperandsBelow k n → EachOperand (λ i. i < m) n
-each_within k m (node.Leaf a) le b = tt
-each_within k m (node.Add x y d) le b = (omega (arith, le, b.0), omega (arith, le, b.1))
-each_within k m (node.Sub x y d) le b = (omega (arith, le, b.0), omega (arith, le, b.1))
-each_within k m (node.Neg x d) le b = omega (arith, le, b)
-each_within k m (node.Mul x y d) le b = (omega (arith, le, b.0), omega (arith, le, b.1))
+each_within k m n le b = λ j d lt. let low = b j d lt in omega (arith, le, low)
 
--- what holds of each operand holds of one
-one_operand : {A : Type 0} (P : ℕ → Type 0) (i : ℕ) (n : SymbolicExpr A) → IsOperand i n → EachOperand P n → P i
-one_operand P i (node.Leaf a) is h = absurd is
-one_operand P i (node.Add x y d) (inl e) h = subst P (sym e) h.0
-one_operand P i (node.Add x y d) (inr e) h = subst P (sym e) h.1
-one_operand P i (node.Sub x y d) (inl e) h = subst P (sym e) h.0
-one_operand P i (node.Sub x y d) (inr e) h = subst P (sym e) h.1
-one_operand P i (node.Neg x d) e h = subst P (sym e) h
-one_operand P i (node.Mul x y d) (inl e) h = subst P (sym e) h.0
-one_operand P i (node.Mul x y d) (inr e) h = subst P (sym e) h.1
-
--- a step whose places are those of the operands
-pub step_placed : {A F : Type 0} (l : Leaves A F) (P Q : ℕ → ℕ → Type 0) (R : ℕ → Type 0) (s : Step) (n : SymbolicExpr A) → ((p i : ℕ) → R i → P p i → Q p i) → EachOperand R n → StepMakes l P s n → StepMakes l Q s n
-step_placed l P Q R step.Leaf n f r h = h
-step_placed l P Q R (step.Current c) n f r h = h
-step_placed l P Q R (step.Next c) n f r h = h
-step_placed l P Q R (step.Add p q) (node.Leaf a) f r h = absurd h
-step_placed l P Q R (step.Add p q) (node.Add x y d) f r h = (f p x r.0 h.0, f q y r.1 h.1)
-step_placed l P Q R (step.Add p q) (node.Sub x y d) f r h = absurd h
-step_placed l P Q R (step.Add p q) (node.Neg x d) f r h = absurd h
-step_placed l P Q R (step.Add p q) (node.Mul x y d) f r h = absurd h
-step_placed l P Q R (step.Sub p q) (node.Leaf a) f r h = absurd h
-step_placed l P Q R (step.Sub p q) (node.Add x y d) f r h = absurd h
-step_placed l P Q R (step.Sub p q) (node.Sub x y d) f r h = (f p x r.0 h.0, f q y r.1 h.1)
-step_placed l P Q R (step.Sub p q) (node.Neg x d) f r h = absurd h
-step_placed l P Q R (step.Sub p q) (node.Mul x y d) f r h = absurd h
-step_placed l P Q R (step.Neg p) (node.Leaf a) f r h = absurd h
-step_placed l P Q R (step.Neg p) (node.Add x y d) f r h = absurd h
-step_placed l P Q R (step.Neg p) (node.Sub x y d) f r h = absurd h
-step_placed l P Q R (step.Neg p) (node.Neg x d) f r h = f p x r h
-step_placed l P Q R (step.Neg p) (node.Mul x y d) f r h = absurd h
-step_placed l P Q R (step.Mul p q) (node.Leaf a) f r h = absurd h
-step_placed l P Q R (step.Mul p q) (node.Add x y d) f r h = absurd h
-step_placed l P Q R (step.Mul p q) (node.Sub x y d) f r h = absurd h
-step_placed l P Q R (step.Mul p q) (node.Neg x d) f r h = absurd h
-step_placed l P Q R (step.Mul p q) (node.Mul x y d) f r h = (f p x r.0 h.0, f q y r.1 h.1)
-step_placed l P Q R (step.Gate p q) (node.Leaf a) f r h = absurd h
-step_placed l P Q R (step.Gate p q) (node.Add x y d) f r h = absurd h
-step_placed l P Q R (step.Gate p q) (node.Sub x y d) f r h = absurd h
-step_placed l P Q R (step.Gate p q) (node.Neg x d) f r h = absurd h
-step_placed l P Q R (step.Gate p q) (node.Mul x y d) f r h = (f p x r.0 h.0, f q y r.1 h.1)
+-- places that some operands have, in another way
+zip_placed : (P Q : ℕ → ℕ → Type 0) (R : ℕ → Type 0) → ((p i : ℕ) → R i → P p i → Q p i) → (places is : List ℕ) → All R is → AllZip P places is → AllZip Q places is
+zip_placed P Q R f [] [] r h = tt
+zip_placed P Q R f [] (i ∷ is) r h = absurd h
+zip_placed P Q R f (p ∷ places) [] r h = absurd h
+zip_placed P Q R f (p ∷ places) (i ∷ is) r h = (f p i (All-head R i is r) h.0, zip_placed P Q R f places is (All-tail R i is r) h.1)
 
 -- One step more makes the node of place k, whose operands stand before it.
 pub one_step_more : {A F : Type 0} (l : Leaves A F) (ns : List (SymbolicExpr A)) (numbers places : List ℕ) (k id : ℕ) (steps new : List Step) (s : Step) (n : SymbolicExpr A)
@@ -77,7 +34,7 @@ pub one_step_more : {A F : Type 0} (l : Leaves A F) (ns : List (SymbolicExpr A))
     → k < length numbers → id ≡ get_or numbers k id → IsNode l ns id n
     → ((m : SymbolicExpr A) → IsNode l ns (number_at numbers k) m → EachOperand (λ i. IsPlaceOf numbers k (get_or places i 0) i) m)
     → StepMakes l (λ p i. p ≡ get_or places i 0) s n → (j : ℕ) → j < k + 1 → MakesPlace l ns numbers j (get_or new j step.Leaf)
-one_step_more l ns numbers places k id steps new s n pushed long before in_numbers at is operands made j below =
+one_step_more l ns numbers places k id steps new s n pushed long before in_numbers at is placed made j below =
     subst (λ x. MakesPlace l ns numbers j x) (sym (ap (λ xs. get_or xs j step.Leaf) pushed))
     (⊎_elim
     (λ (lt : j < k).
@@ -97,10 +54,12 @@ one_step_more l ns numbers places k id steps new s n pushed long before in_numbe
     makes m m_is =
         let one : Some n ≡ Some m = sym is.node ∙ ap (slice_get ns) (sym number) ∙ m_is.node in
         let same : n ≡ m = cc in
-        subst (StepMakes l (IsPlaceOf numbers k) s) same
-        (step_placed l (λ p i. p ≡ get_or places i 0) (IsPlaceOf numbers k) (λ i. IsPlaceOf numbers k (get_or places i 0) i) s n
-        (λ p i r e. subst (λ q. IsPlaceOf numbers k q i) (sym e) r)
-        (operands n (subst (λ v. IsNode l ns v n) (sym number) is)) made)
+        subst (StepMakes l (IsPlaceOf numbers k) s) same (
+          made.0,
+          zip_placed (λ p i. p ≡ get_or places i 0) (IsPlaceOf numbers k) (λ i. IsPlaceOf numbers k (get_or places i 0) i)
+              (λ p i r e. subst (λ q. IsPlaceOf numbers k q i) (sym e) r)
+              (step_places s) (operands n) (placed n (subst (λ v. IsNode l ns v n) (sym number) is)) made.1,
+        )
 
 eqb_same : (i x : ℕ) → i ≡ x → eqb i x ≡ true
 eqb_same i x e = grind (arith, e)
@@ -114,14 +73,7 @@ or_right true b e = refl
 or_right false b e = e
 
 operand_found : {A : Type 0} (i : ℕ) (n : SymbolicExpr A) → IsOperand i n → has_operand i n ≡ true
-operand_found i (node.Leaf a) is = absurd is
-operand_found i (node.Add x y d) (inl e) = or_left (eqb i x) (eqb i y) (eqb_same i x e)
-operand_found i (node.Add x y d) (inr e) = or_right (eqb i x) (eqb i y) (eqb_same i y e)
-operand_found i (node.Sub x y d) (inl e) = or_left (eqb i x) (eqb i y) (eqb_same i x e)
-operand_found i (node.Sub x y d) (inr e) = or_right (eqb i x) (eqb i y) (eqb_same i y e)
-operand_found i (node.Neg x d) e = eqb_same i x e
-operand_found i (node.Mul x y d) (inl e) = or_left (eqb i x) (eqb i y) (eqb_same i x e)
-operand_found i (node.Mul x y d) (inr e) = or_right (eqb i x) (eqb i y) (eqb_same i y e)
+operand_found i n (k, lt, e) = list_any_at (λ x. eqb i x) (operands n) k i lt (eqb_same i (get_or (operands n) k i) (sym e))
 
 -- the roots' places
 roots_within : (numbers table places roots : List ℕ) → All (λ i. IsPlaceOf numbers (length numbers) (get_or table i 0) i) roots → AllZip (λ p i. p ≡ get_or table i 0) places roots → All (λ p. p < length numbers) places
@@ -179,7 +131,7 @@ module _ {A F : Type 0} (l : Leaves A F) (ns : List (SymbolicExpr A)) (roots : L
 
   reached_marked : (i : ℕ) → ReachedFrom l ns roots i → Marked marks i
   reached_marked i (root (k, lt, e)) = subst (λ j. Marked marks j) e (r.roots_marked k i lt)
-  reached_marked i (operand {j = j} {n = n} f is p) = one_operand (λ k. Marked marks k) i n p (r.operands_marked j n (reached_marked j f) is)
+  reached_marked i (operand {j = j} {n = n} f is p) = All-contains (λ k. Marked marks k) (operands n) i (r.operands_marked j n (reached_marked j f) is) p
 
   module _ (numbers table : List ℕ) (h : HavePlaces marks numbers table) where
     -- what is reached is needed

@@ -1,5 +1,5 @@
 -- What an audit under no cap answers and refuses, as `audit_air` says it.
-use Rattle.std.proofs.Common.{Result, Ok, Err, IfOk, IfErr, OnOk, ◌≡◌, ℕ, ◌+◌, ◌<◌, ◌≤◌, ◌^◌, List, [], ◌∷◌, ◌++◌, map, length, drop, slice_get, Bool, Some, None, refl, sym, ap, ap₂, ◌∙◌, subst, inl, inr}
+use Rattle.std.proofs.Common.{Result, Ok, Err, IfOk, IfErr, OnOk, ◌≡◌, ℕ, ◌+◌, ◌<◌, ◌≤◌, ◌^◌, List, [], ◌∷◌, ◌++◌, map, length, take, drop, slice_get, Bool, Some, None, refl, sym, ap, ap₂, ◌∙◌, subst, inl, inr}
 use Rattle.std.proofs.lemmas.List.{map-append, length-map}
 use Rattle.air_field.specs.Ring.{CommRing}
 use Rattle.air_field.specs.Assignment.{IsMissing}
@@ -10,10 +10,12 @@ use Rattle.air_report.specs.Cells.{cell_label, cell_place, label_text}
 use Rattle.air_report.specs.Checks.{Fits, HasEntries, IsCellPastCount, IsReport, RowsRan, RowRefuses}
 use Rattle.air_report.specs.Instances.{instance_trace}
 use Rattle.air_report.specs.Report.{constraints_counted, failure_place, report_of}
+use Rattle.air_report.specs.RowLabels.{LabelledRows, LabelsRows}
 use Rattle.air_report.specs.declared.checks.report.ConstraintReport.{ConstraintReport}
-use Rattle.air_audit.specs.Theorem.{Instance, row_count, RowsHaveEntries, FixedColumnsFit, FitsDeclaration, constraints_per_row, failure_places, nonzero_places, violations, violated_cells, LabelsFrom, RecordingRefuses, IsRecordable, ReportRefuses, AuditRefuses}
+use Rattle.air_report.specs.declared.debug.builder.DebugConstraintBuilder.{DebugConstraintBuilder}
+use Rattle.air_audit.specs.Theorem.{Instance, row_count, RowsHaveEntries, FixedColumnsFit, FitsDeclaration, constraints_per_row, failure_places, nonzero_places, violated_cells, violated_places, LabelsFrom, RecordingRefuses, IsRecordable, ReportRefuses, AuditRefuses}
 use Rattle.air_audit.specs.Audits.{AuditRefusesUnder}
-use Rattle.air_audit.specs.laws.Theorem.{cells_refuse, fixed_columns_fit, fixed_columns_refuse, labels_are, nonzero_places_are, proper_below, rows_refuse, shape_is, violations_are}
+use Rattle.air_audit.specs.laws.Theorem.{cells_refuse, fixed_columns_fit, fixed_columns_refuse, labels_are, nonzero_places_are, proper_below, rows_refuse, shape_is, violated_cells_are}
 
 -- a fact for the answer, from another
 pub if_ok-map : {A E : Type 0} {P Q : A → Type 0} (r : Result A E) → IfOk r P → ((a : A) → P a → Q a) → IfOk r Q
@@ -48,6 +50,13 @@ module _ {F : Type 0} (r : CommRing F) (eq : F → F → Bool) (x : Instance F) 
   entries ran =
       subst (λ s. 0 < row_count x → NoneMissing (IsMissing s) x.air.constraints) (sym (shape_is x)) (subst (λ n. 0 < n → HasEntries x) (all_shown ran) ran.there)
 
+  -- the rows' failures are the first, as many as there are nonzero places
+  pub row_labels : (says : DebugConstraintBuilder F F → DebugConstraintBuilder F F → Type 0) (report : ConstraintReport) → LabelsRows r eq x None says report
+      → LabelledRows says (row_count x) (take (length (nonzero_places r eq x)) report.failures.items)
+  row_labels says report h =
+      subst (λ ps. LabelledRows says (row_count x) (take (length ps) report.failures.items)) (sym (nonzero_places_are r x eq))
+      (subst (λ n. LabelledRows says n (take (length (report_of r eq (instance_trace x) x.air.constraints n)) report.failures.items)) (all_shown h.ran) h.labelled)
+
   module _ (report : ConstraintReport) (p : IsReport r eq x None report) where
     at : p.shown ≡ row_count x
     at = all_shown p.ran
@@ -63,17 +72,17 @@ module _ {F : Type 0} (r : CommRing F) (eq : F → F → Bool) (x : Instance F) 
       rows_for_cells = p.cells.rows_there;
     }
 
-    pub lists : failure_places report ≡ nonzero_places r eq x ++ violated_cells r eq x
+    pub lists : failure_places report ≡ nonzero_places r eq x ++ violated_places r eq x
     lists = ap (map failure_place) p.lists.failures
         ∙ (map-append failure_place p.of_rows p.lists.more
         ∙ ap₂ (λ xs ys. xs ++ ys) of_rows
-        (p.lists.places ∙ (ap (λ n. map (cell_place (row_count x) (constraints_counted x.air.constraints n)) _) at ∙ ap (map (cell_place (row_count x) (constraints_per_row x))) (sym (violations_are r x eq)))))
+        (p.lists.places ∙ (ap (λ n. map (cell_place (row_count x) (constraints_counted x.air.constraints n)) _) at ∙ ap (map (cell_place (row_count x) (constraints_per_row x))) (sym (violated_cells_are r x eq)))))
 
-    pub labels : LabelsFrom (length (nonzero_places r eq x)) (violations r eq x) report
+    pub labels : LabelsFrom (length (nonzero_places r eq x)) (violated_cells r eq x) report
     labels = labels_are (drop (length (nonzero_places r eq x)) report.failures.items)
         ∙ (ap (λ fs. map label_text (drop (length (nonzero_places r eq x)) fs)) p.lists.failures
         ∙ (ap (map label_text) (dropped p.of_rows p.lists.more (length (nonzero_places r eq x)) counted)
-        ∙ (p.lists.labels ∙ ap (map (λ c. Some (cell_label c.1))) (sym (violations_are r x eq)))))
+        ∙ (p.lists.labels ∙ ap (map (λ c. Some (cell_label c.1))) (sym (violated_cells_are r x eq)))))
       where
         counted : length (nonzero_places r eq x) ≡ length p.of_rows
         counted = ap length (sym of_rows) ∙ length-map p.of_rows failure_place
@@ -122,7 +131,7 @@ module _ {F : Type 0} (r : CommRing F) (eq : F → F → Bool) (x : Instance F) 
         (subst (λ k. ReportRefuses r eq x k) (sym is) (
           past.past.at,
           past.past.cell,
-          ap (λ l. slice_get l past.past.at) (violations_are r x eq) ∙ past.past.is_listed,
+          ap (λ l. slice_get l past.past.at) (violated_cells_are r x eq) ∙ past.past.is_listed,
           subst (λ n. 2 ^ 64 ≤ constraints_counted x.air.constraints n + past.past.cell.0) (all_shown past.ran) past.past.past,
         ))
         answers shapes past

@@ -2,7 +2,6 @@
 use Rattle.std.specs.Prelude.{◌≡◌, ◌⊎◌, ℕ, ◌≤◌, ◌<◌, ◌^◌, Bool, Option}
 use Rattle.air_field.specs.Ring.{CommRing}
 use Rattle.air_field.specs.Extension.{Basis}
-use Rattle.air_field.specs.Degree.{greatest_degree}
 use Rattle.air_core.specs.declared.errors.AirError.{AirError}
 use Rattle.air_core.specs.declared.errors.AirError.TheVariants.{DegreeOverflow}
 use Rattle.air_report.specs.Checks.{IsReport, CheckRefuses}
@@ -18,7 +17,7 @@ pub record IsAuditUnder {F : Type 0} (r : CommRing F) (eq : F → F → Bool) (b
   pub pool : MeansEach r basis x.air audit.recorded
   pub report : IsReport r eq x cap audit.report
   pub degree : audit.degree ≡ degree_in w x (terms_in basis audit.recorded)
-  pub in_range : greatest_degree (domain w x).weight (terms_in basis audit.recorded) < 2 ^ 64
+  pub in_range : degree_in w x (terms_in basis audit.recorded) < 2 ^ 64
   pub bounded : 2 ≤ row_count x → BoundsPolynomials r (domain w x) (terms_in basis audit.recorded) audit.degree
   pub least : 3 ≤ row_count x → IsLeast (BoundsDegrees (domain w x) (terms_in basis audit.recorded)) audit.degree
 

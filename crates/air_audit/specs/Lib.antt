@@ -90,6 +90,7 @@ pub use Rattle.air_json.specs.declared.errors.FlatError
 pub use Rattle.air_builder.specs.Assertion
 pub use Rattle.air_builder.specs.Notation
 pub use Rattle.air_builder.specs.Declaration
+pub use Rattle.air_builder.specs.declared.airs.beside.Beside
 pub use Rattle.air_builder.specs.Batches
 pub use Rattle.air_builder.specs.Labels
 pub use Rattle.air_builder.specs.Filters
@@ -136,12 +137,15 @@ pub use Rattle.air_report.specs.Instances
 pub use Rattle.air_report.specs.Shapes
 pub use Rattle.air_report.specs.Cells
 pub use Rattle.air_report.specs.Checks
+pub use Rattle.air_report.specs.ReportBy
+pub use Rattle.air_report.specs.Permuted
 pub use Rattle.air_report.specs.Report
 pub use Rattle.air_report.specs.RowRefusals
 pub use Rattle.air_report.specs.Debug
 pub use Rattle.air_report.specs.DebugRow
 pub use Rattle.air_report.specs.DebugAsserts
 pub use Rattle.air_report.specs.DebugLabels
+pub use Rattle.air_report.specs.RowLabels
 pub use Rattle.air_report.specs.FailureTexts
 pub use Rattle.air_report.specs.declared.checks.check_first.CheckError
 pub use Rattle.air_report.specs.declared.checks.report.ConstraintReport
@@ -151,6 +155,8 @@ pub use Rattle.air_gadgets.specs.Numbers
 pub mod Author
 pub mod Claims
 pub mod Theorem
+pub mod DeclaredShape
+pub use Rattle.air_audit.specs.declared.declared_shape.ShapeError
 pub mod Audits
 pub mod RecordedAirs
 pub use Rattle.air_builder.specs.Builders

@@ -1,9 +1,9 @@
 -- How the expressions of roots are made, one after another.
 use Rattle.std.specs.List.{AllZip, list_any}
-use Rattle.std.specs.Prelude.{slice_get, ◌≡◌, ◌||◌, ℕ, ◌<◌, List, length, slice_index_or, All, Bool, false, Option, None, Some, ⊤, ◌==◌}
+use Rattle.std.specs.Prelude.{slice_get, ◌≡◌, ◌||◌, ℕ, ◌<◌, List, [], ◌∷◌, length, slice_index_or, All, Bool, false, Option, None, Some, ⊤, ◌==◌}
 use Rattle.air_field.specs.Term.{Term, leaf_term, main}
 use Rattle.air_symbolic.specs.Leaves.{Leaves}
-use Rattle.air_symbolic.specs.Nodes.{IsNode}
+use Rattle.air_symbolic.specs.Nodes.{operands, IsNode}
 use Rattle.air_symbolic.specs.Reach.{Marked}
 use Rattle.air_symbolic.specs.declared.pools.expr.SymbolicExpr.{SymbolicExpr}
 use Rattle.air_symbolic.specs.declared.pools.expr.SymbolicExpr.TheVariants as node
@@ -18,7 +18,7 @@ number_at numbers p = slice_index_or numbers p 0
 abbrev pub IsPlaceOf : List ℕ → ℕ → ℕ → ℕ → Type 0
 IsPlaceOf numbers k p i = (p < k) × (i ≡ number_at numbers p)
 
--- a leaf; and operations whose operands have these properties
+-- the node is a leaf
 abbrev pub IsLeaf : {A : Type 0} → SymbolicExpr A → Type 0
 IsLeaf (node.Leaf a) = ⊤
 IsLeaf _ = ⊥
@@ -28,37 +28,30 @@ abbrev pub column_of : {F : Type 0} → Term F → Option (ℕ × ℕ)
 column_of (leaf_term (main o c)) = Some (o, c)
 column_of _ = None
 
--- the leaf of a column of the main trace, on the row at this offset
-abbrev pub IsColumn : {A F : Type 0} → Leaves A F → ℕ → ℕ → SymbolicExpr A → Type 0
-IsColumn l o c (node.Leaf a) = column_of (l.term a) ≡ Some (o, c)
-IsColumn l o c _ = ⊥
+-- the step is of the node's kind: a leaf, its column of the main trace, or the operation
+abbrev pub IsOfKind : {A F : Type 0} → Leaves A F → Step → SymbolicExpr A → Type 0
+IsOfKind l step.Leaf (node.Leaf a) = ⊤
+IsOfKind l (step.Current c) (node.Leaf a) = column_of (l.term a) ≡ Some (0, c)
+IsOfKind l (step.Next c) (node.Leaf a) = column_of (l.term a) ≡ Some (1, c)
+IsOfKind l (step.Add p q) (node.Add x y d) = ⊤
+IsOfKind l (step.Sub p q) (node.Sub x y d) = ⊤
+IsOfKind l (step.Neg p) (node.Neg x d) = ⊤
+IsOfKind l (step.Mul p q) (node.Mul x y d) = ⊤
+IsOfKind l (step.Gate p q) (node.Mul x y d) = ⊤
+IsOfKind l _ _ = ⊥
 
-abbrev pub IsSumOf : {A : Type 0} → (ℕ → Type 0) → (ℕ → Type 0) → SymbolicExpr A → Type 0
-IsSumOf P Q (node.Add x y d) = P x × Q y
-IsSumOf P Q _ = ⊥
+-- the places that a step names, in order
+abbrev pub step_places : Step → List ℕ
+step_places (step.Add p q) = p ∷ q ∷ []
+step_places (step.Sub p q) = p ∷ q ∷ []
+step_places (step.Neg p) = p ∷ []
+step_places (step.Mul p q) = p ∷ q ∷ []
+step_places (step.Gate p q) = p ∷ q ∷ []
+step_places _ = []
 
-abbrev pub IsDifferenceOf : {A : Type 0} → (ℕ → Type 0) → (ℕ → Type 0) → SymbolicExpr A → Type 0
-IsDifferenceOf P Q (node.Sub x y d) = P x × Q y
-IsDifferenceOf P Q _ = ⊥
-
-abbrev pub IsNegativeOf : {A : Type 0} → (ℕ → Type 0) → SymbolicExpr A → Type 0
-IsNegativeOf P (node.Neg x d) = P x
-IsNegativeOf P _ = ⊥
-
-abbrev pub IsProductOf : {A : Type 0} → (ℕ → Type 0) → (ℕ → Type 0) → SymbolicExpr A → Type 0
-IsProductOf P Q (node.Mul x y d) = P x × Q y
-IsProductOf P Q _ = ⊥
-
--- the step makes the node: it is of the node's kind, and names its column, or the places of its operands
+-- the step makes the node: it is of the node's kind, and names the places of its operands
 abbrev pub StepMakes : {A F : Type 0} → Leaves A F → (ℕ → ℕ → Type 0) → Step → SymbolicExpr A → Type 0
-StepMakes l at step.Leaf n = IsLeaf n
-StepMakes l at (step.Current c) n = IsColumn l 0 c n
-StepMakes l at (step.Next c) n = IsColumn l 1 c n
-StepMakes l at (step.Add p q) n = IsSumOf (at p) (at q) n
-StepMakes l at (step.Sub p q) n = IsDifferenceOf (at p) (at q) n
-StepMakes l at (step.Neg p) n = IsNegativeOf (at p) n
-StepMakes l at (step.Mul p q) n = IsProductOf (at p) (at q) n
-StepMakes l at (step.Gate p q) n = IsProductOf (at p) (at q) n
+StepMakes l at s n = IsOfKind l s n × AllZip at (step_places s) (operands n)
 
 -- the step makes the node of place k's number, out of operands before it
 abbrev pub MakesPlace : {A F : Type 0} → Leaves A F → List (SymbolicExpr A) → List ℕ → ℕ → Step → Type 0
@@ -71,11 +64,7 @@ pub record AreSteps {A F : Type 0} (l : Leaves A F) (ns : List (SymbolicExpr A))
 
 -- whether number i is an operand of the node
 abbrev pub has_operand : {A : Type 0} → ℕ → SymbolicExpr A → Bool
-has_operand i (node.Leaf a) = false
-has_operand i (node.Add x y d) = (i == x) || (i == y)
-has_operand i (node.Sub x y d) = (i == x) || (i == y)
-has_operand i (node.Neg x d) = i == x
-has_operand i (node.Mul x y d) = (i == x) || (i == y)
+has_operand i n = list_any (λ x. i == x) (operands n)
 
 abbrev pub some_has_operand : {A : Type 0} → ℕ → Option (SymbolicExpr A) → Bool
 some_has_operand i None = false

@@ -5,7 +5,7 @@ use Rattle.std.specs.Option.{option_map}
 use Rattle.std.specs.List.{AllZip, filter, enumerate_from}
 use Rattle.air_field.specs.Ring.{CommRing, self_algebra}
 use Rattle.air_field.specs.Extension.{Basis}
-use Rattle.air_field.specs.Grid.{Grid}
+use Rattle.air_field.specs.Grid.{Grid, table_grid}
 use Rattle.air_field.specs.Term.{Leaf, preprocessed, main, periodic, public, first_row, last_row, transition, permutation, challenge, permutation_value, Term, leaf_term, ext_const_term}
 use Rattle.air_field.specs.Same.{Simplifies}
 use Rattle.air_field.specs.Polynomial.{polynomial, HasDegreeAtMost}
@@ -34,7 +34,6 @@ use Rattle.air_recording.specs.Recorded.{RecordsTerm}
 use Rattle.air_recording.specs.Recordings.{Recording}
 use Rattle.air_report.specs.Cells.{cell_label}
 pub use Rattle.air_report.specs.Instances.{Instance, instance, row_count}
-use Rattle.air_report.specs.Instances.{table_grid}
 use Rattle.air_report.specs.Report.{all_places, assertion_value}
 use Rattle.air_report.specs.declared.checks.report.ConstraintReport.{ConstraintReport}
 use Rattle.air_audit.specs.declared.audit.Audit.{Audit}
@@ -189,12 +188,12 @@ abbrev pub constraints_per_row : {F : Type 0} → Instance F → ℕ
 constraints_per_row x = if row_count x == 0 then 0 else length x.air.constraints
 
 -- the boundary values whose cells don't hold their public values, each with its number in the list of boundary values
-abbrev pub violations : {F : Type 0} → CommRing F → (F → F → Bool) → Instance F → List (ℕ × BoundaryPublic)
-violations r eq x = filter (λ c. not (eq (entry_at r.zero x.main (row_of c.1.end (row_count x)) c.1.column) (slice_index_or x.public c.1.public_value r.zero))) (enumerate_from 0 x.air.cells)
+abbrev pub violated_cells : {F : Type 0} → CommRing F → (F → F → Bool) → Instance F → List (ℕ × BoundaryPublic)
+violated_cells r eq x = filter (λ c. not (eq (entry_at r.zero x.main (row_of c.1.end (row_count x)) c.1.column) (slice_index_or x.public c.1.public_value r.zero))) (enumerate_from 0 x.air.cells)
 
 -- the places where these are listed: the row of the cell, and the boundary value's number after all constraints
-abbrev pub violated_cells : {F : Type 0} → CommRing F → (F → F → Bool) → Instance F → List (ℕ × ℕ)
-violated_cells r eq x = map (λ c. (row_of c.1.end (row_count x), constraints_per_row x + c.0)) (violations r eq x)
+abbrev pub violated_places : {F : Type 0} → CommRing F → (F → F → Bool) → Instance F → List (ℕ × ℕ)
+violated_places r eq x = map (λ c. (row_of c.1.end (row_count x), constraints_per_row x + c.0)) (violated_cells r eq x)
 
 -- the rows and places of the failures that a report lists, in order
 abbrev pub failure_places : ConstraintReport → List (ℕ × ℕ)
@@ -206,10 +205,9 @@ LabelsFrom n cells report = map (λ f. option_map (λ s. string_bytes s) f.label
 
 -- ---- The inferred degree
 
--- A domain over a trace: the weight of each leaf in the degree of a term, the greatest degree of the leaf's polynomial,
--- and the greatest degree that degree d allows a constraint's polynomial.
+-- A domain over a trace: the greatest degree of each leaf's polynomial, and the greatest degree that degree d allows a
+-- constraint's polynomial.
 pub record Domain : Type 0 where
-  pub weight : Leaf → ℕ
   pub leaf_degree : Leaf → ℕ
   pub bound : ℕ → ℕ
 
@@ -217,12 +215,10 @@ pub record Domain : Type 0 where
 -- over the rows; for w from 1 it counts as w columns, and degrees are counted in columns.
 abbrev pub domain : {F : Type 0} → ℕ → Instance F → Domain
 domain zero x = record {
-  weight = trace_weight (row_count x) (periods_of x.air.periodic);
   leaf_degree = trace_weight (row_count x) (periods_of x.air.periodic);
   bound = λ d. d * (row_count x - 1) + 1;
 }
 domain (suc w) x = record {
-  weight = transition_weight (suc w);
   leaf_degree = λ l. transition_weight (suc w) l * (row_count x - 1);
   bound = λ d. d * (row_count x - 1);
 }
@@ -316,15 +312,15 @@ CellsRefuse x _ = ⊥
 -- The report's error: the place of a violated boundary value passes `usize`.
 abbrev pub ReportRefuses : {F : Type 0} → CommRing F → (F → F → Bool) → Instance F → AirError → Type 0
 ReportRefuses r eq x CountOverflow =
-    (k : ℕ) × (c : ℕ × BoundaryPublic) × (slice_get (violations r eq x) k ≡ Some c) × (2 ^ 64 ≤ constraints_per_row x + c.0)
+    (k : ℕ) × (c : ℕ × BoundaryPublic) × (slice_get (violated_cells r eq x) k ≡ Some c) × (2 ^ 64 ≤ constraints_per_row x + c.0)
 ReportRefuses r eq x _ = ⊥
 
--- some terms that record the declared constraints have a degree past `usize`, by the domain's weights
+-- the degree of some terms that record the declared constraints passes `usize`
 pub record DegreeOverflows {F : Type 0} (r : CommRing F) (w : ℕ) (x : Instance F) : Type 0 where
   pub base : List (Term F)
   pub ext : List (Term F)
   pub recorded : RecordConstraints r x.air base ext
-  pub past : 2 ^ 64 ≤ greatest_degree (domain w x).weight (base ++ ext)
+  pub past : 2 ^ 64 ≤ degree_in w x (base ++ ext)
 
 -- The first error: of the recording, the fixed columns, the rows, the boundary values, the report, the degree. Each line
 -- states the conditions that hold before it.

@@ -6,4 +6,5 @@ pub mod FlatAirs
 pub mod FlatExtAirs
 pub mod Plans
 pub mod Recordings
+pub mod RootLabels
 pub mod Theorem

@@ -1,7 +1,7 @@
 //! The audit: an AIR is recorded and checked in one call, so that the recorded constraints are the tested ones.
-ghost use Rattle.std.specs.Prelude.{◌≡◌, ◌≤◌, ◌<◌, ◌^◌, ◌++◌, length, IfOk, IfErr, OnOk};
-ghost use Rattle.air_field.specs.Degree.{greatest_degree};
-ghost use Rattle.air_audit.specs.Theorem.{instance, row_count, NamesOwnEntries, FitsDeclaration, RecordsEach, MeansEach, terms_in, failure_places, nonzero_places, violations, violated_cells, constraints_per_row, LabelsFrom, domain, degree_in, BoundsDegrees, BoundsPolynomials, IsLeast, AuditRefuses};
+ghost use Rattle.std.specs.Prelude.{◌≡◌, ◌≤◌, ◌<◌, ◌^◌, ◌++◌, length, take, IfOk, IfErr, OnOk};
+ghost use Rattle.air_report.specs.RowLabels.{LabelledRows, LabelsRows};
+ghost use Rattle.air_audit.specs.Theorem.{instance, row_count, NamesOwnEntries, FitsDeclaration, RecordsEach, MeansEach, terms_in, failure_places, nonzero_places, violated_cells, violated_places, constraints_per_row, LabelsFrom, domain, degree_in, BoundsDegrees, BoundsPolynomials, IsLeast, AuditRefuses};
 ghost use Rattle.air_audit.specs.Audits.{IsAuditUnder, AuditRefusesUnder};
 
 use air_builder::{Air, AirError, BaseAir};
@@ -64,13 +64,16 @@ pub fn audit_air<
     ensures pool { IfOk result (λ a. MeansEach F.ring F.basis (A.declaration air.now) a.recorded) }
 
     // The failures are the rows and places at which the declared constraint isn't zero, then the violated boundary
-    // values.
+    // values, which have their labels. The labels of the rows' failures are as the AIR says.
     ensures report { let x = instance (A.declaration air.now) main.now public_values.now in
         IfOk result (λ a. failure_places a.report
-        ≡ nonzero_places F.ring F.eq x ++ violated_cells F.ring F.eq x) }
+        ≡ nonzero_places F.ring F.eq x ++ violated_places F.ring F.eq x) }
     ensures labels { let x = instance (A.declaration air.now) main.now public_values.now in
         IfOk result (λ a. LabelsFrom (length (nonzero_places F.ring F.eq x))
-        (violations F.ring F.eq x) a.report) }
+        (violated_cells F.ring F.eq x) a.report) }
+    ensures row_labels { let x = instance (A.declaration air.now) main.now public_values.now in
+        IfOk result (λ a. LabelledRows (A.Air-2.labels air.now) (row_count x)
+        (take (length (nonzero_places F.ring F.eq x)) a.report.failures.items)) }
     ensures counts { let x = instance (A.declaration air.now) main.now public_values.now in
         IfOk result (λ a. (a.report.total_rows ≡ row_count x)
         × (a.report.total_constraints_per_row ≡ constraints_per_row x)) }
@@ -79,8 +82,7 @@ pub fn audit_air<
     // the leaves' are within theirs; from three rows on it is the least that bounds the terms' degrees.
     ensures degree { let x = instance (A.declaration air.now) main.now public_values.now in
         IfOk result (λ a. (a.degree ≡ degree_in transition_weight x (terms_in F.basis a.recorded))
-        × (greatest_degree (domain transition_weight x).weight (terms_in F.basis a.recorded)
-        < 2 ^ 64)) }
+        × (degree_in transition_weight x (terms_in F.basis a.recorded) < 2 ^ 64)) }
     ensures bounded { let x = instance (A.declaration air.now) main.now public_values.now in
         IfOk result (λ a. 2 ≤ row_count x → BoundsPolynomials F.ring (domain transition_weight x)
         (terms_in F.basis a.recorded) a.degree) }
@@ -115,6 +117,9 @@ pub fn audit_air_with_cap<
     ensures refused { IfErr result (AuditRefusesUnder F.ring F.eq
         (instance (A.declaration air.now) main.now public_values.now)
         max_failures transition_weight) }
+    ensures labels { IfOk result (λ a. LabelsRows F.ring F.eq
+        (instance (A.declaration air.now) main.now public_values.now) max_failures
+        (A.Air-2.labels air.now) a.report) }
 {
     let (recorded, layout) = record_with_layout(alloc, air, AirLayout::from_air::<F, A>(air))?;
     let report = check_all_constraints(alloc, air, main, public_values, max_failures)?;

@@ -7,7 +7,7 @@ pub use air_author::{
     Lifted, MovableConstraints, Moved, Named, Negative, Next, Number, One, Periodic,
     PermutationCurrent, PermutationNext, PermutationValue, Plain, PlainAir, PlainConstraints,
     Power, PreprocessedCurrent, PreprocessedNext, Product, Public, Square, Sum, Transition, When,
-    Zero, assert_all, assert_these, challenge, constant, current, ext_constant, next, number,
+    Xor, Zero, assert_all, assert_these, challenge, constant, current, ext_constant, next, number,
     periodic, permutation_current, permutation_next, permutation_value, preprocessed_current,
     preprocessed_next, public,
 };

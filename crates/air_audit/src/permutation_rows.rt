@@ -1,65 +1,19 @@
 //! A row of an AIR with permutation data, checked by itself.
-ghost use Rattle.std.specs.Prelude.{◌≡◌, ◌+◌, ◌%◌, ◌<◌, ◌⊎◌, Some, slice_get, length, IfOk, IfErr};
+ghost use Rattle.std.specs.Prelude.{◌≡◌, ◌<◌, ◌⊎◌, [], length, IfOk, IfErr};
 ghost use Rattle.air_core.specs.declared.errors.AirError.{AirError};
 ghost use Rattle.air_report.specs.Debug.{is_zero_at};
+ghost use Rattle.air_report.specs.Permuted.{permutation_trace, permuted_row};
+ghost use Rattle.air_report.specs.Report.{plain_trace};
+ghost use Rattle.air_report.specs.RowLabels.{LabelledRow};
 ghost use Rattle.air_report.specs.RowRefusals.{RefusedAtRow};
-ghost use Rattle.air_audit.specs.PermutationRows.{permutation_at, row_with_permutation, FailAtRow};
+ghost use Rattle.air_audit.specs.PermutationRows.{FailAtRow};
 
 use air_author::PlainConstraints;
 use air_builder::AirError;
+use air_core::Selectors;
 use air_field::{ExtensionField, Field, RowMajorMatrix, RowMajorMatrixView, ViewPair};
-use air_report::{ConstraintFailure, DebugConstraintBuilder};
+use air_report::{ConstraintFailure, DebugConstraintBuilder, Permutation};
 use std::alloc::Global;
-
-/// The permutation trace of an AIR, the challenges that it was made with, and the values that its argument exposes.
-#[derive(Clone, Copy, Drop)]
-pub struct Permutation<'a, EF> {
-    pub trace: &'a RowMajorMatrix<EF>,
-    pub challenges: &'a [EF],
-    pub values: &'a [EF],
-}
-
-impl<'a, EF> Permutation<'a, EF> {
-    /// The permutation data of these three. Nothing is checked.
-    pub fn new(trace: &'a RowMajorMatrix<EF>, challenges: &'a [EF], values: &'a [EF]) -> Self
-        ensures trace { result.trace ≡ trace.entry }
-        ensures challenges { result.challenges ≡ challenges.entry }
-        ensures values { result.values ≡ values.entry }
-    {
-        Permutation {
-            trace,
-            challenges,
-            values,
-        }
-    }
-}
-
-/// The values of a row.
-fn row_of<'a, T: Copy>(trace: &'a RowMajorMatrix<T>, row: usize) -> &'a [T]
-    requires { row < length trace.now.rows }
-    ensures row { slice_get trace.now.rows row ≡ Some result.now }
-    ensures width { length result.now ≡ trace.now.width }
-{
-    match trace.row_slice(row) {
-        Some(values) => values,
-        None => unreachable!(),
-    }
-}
-
-/// A row and the next one; after the last row comes the first.
-fn row_pair<'a, T: Copy>(trace: &'a RowMajorMatrix<T>, row: usize) -> ViewPair<'a, T>
-    requires { row < length trace.now.rows }
-    ensures top { slice_get trace.now.rows row ≡ Some result.top.values.now }
-    ensures bottom { slice_get trace.now.rows ((row + 1) % length trace.now.rows) ≡ Some
-        result.bottom.values.now }
-{
-    let height = trace.height();
-    let next = if row + 1 == height { 0 } else { row + 1 };
-    ViewPair::new(
-        RowMajorMatrixView::new_row(row_of(trace, row)),
-        RowMajorMatrixView::new_row(row_of(trace, next)),
-    )
-}
 
 /// The constraints of a plain AIR with permutation data that fail at a row of its traces. The next row of the last row
 /// is the first one. Base constraints are evaluated in `F`, and those over the extension in `EF`.
@@ -83,30 +37,29 @@ pub fn check_row_with_permutation<
 ) -> Result<Vec<ConstraintFailure>, AirError>
     requires within { row < length main.now.rows }
     requires permutation_within { row < length permutation.trace.now.rows }
-    ensures failures { let r = row_with_permutation F.ring main.now public_values.now
-        (permutation_at permutation.entry.trace.now permutation.entry.challenges.now
-        permutation.entry.values.now row) row in
+    ensures failures { let r = permuted_row F.ring (plain_trace main.now public_values.now)
+        (permutation_trace permutation.entry) row in
         IfOk result (λ failures. FailAtRow (is_zero_at F.ring EF.over F.eq EF.eq) r
         (A.plain air.now).0 failures.items) }
-    ensures refused { let r = row_with_permutation F.ring main.now public_values.now
-        (permutation_at permutation.entry.trace.now permutation.entry.challenges.now
-        permutation.entry.values.now row) row in
+    ensures refused { let r = permuted_row F.ring (plain_trace main.now public_values.now)
+        (permutation_trace permutation.entry) row in
         IfErr result (λ e. (e ≡ AirError.Memory) ⊎ RefusedAtRow
         (is_zero_at F.ring EF.over F.eq EF.eq) r 0 e (A.plain air.now).0) }
+    ensures labels { IfOk result (λ failures. LabelledRow (A.labels air.now) row []
+        failures.items) }
 {
     let none = RowMajorMatrixView::new_row(&[]);
-    let height = main.height();
-    let is_last = row + 1 == height;
+    let selectors = Selectors::at(row, main.height());
     let mut builder = DebugConstraintBuilder::new_with_permutation(
         alloc,
         row,
-        row_pair(main, row),
+        main.row_pair(row),
         ViewPair::new(none, none),
         public_values,
-        F::from_bool(row == 0),
-        F::from_bool(is_last),
-        F::from_bool(!is_last),
-        row_pair(permutation.trace, row),
+        selectors.is_first_row,
+        selectors.is_last_row,
+        selectors.is_transition,
+        permutation.trace.row_pair(row),
         permutation.challenges,
         permutation.values,
         Vec::new(alloc),

@@ -1,5 +1,5 @@
 //! A recording as an AIR.
-ghost use Rattle.std.specs.Prelude.{◌≡◌, List, None, IfOk, IfErr};
+ghost use Rattle.std.specs.Prelude.{◌≡◌, List, IfOk, IfErr};
 ghost use Rattle.air_symbolic.specs.BaseLeaves.{base_reads};
 ghost use Rattle.air_core.specs.declared.errors.AirError.{AirError};
 ghost use Rattle.air_builder.specs.Assertion.{Assertion};
@@ -12,7 +12,7 @@ ghost use Rattle.air_audit.specs.RecordedAirs.{zero_at_recorded, RecordedAirRefu
 
 use crate::flat::flat_air::FlatAir;
 use air_author::{Constraint, assert_these};
-use air_builder::{AirBuilder, AirError, BaseAir, BoundaryPublic, View};
+use air_builder::{AirBuilder, AirError, BaseAir, Beside, View};
 use air_field::{ExtensionField, Field};
 use air_recording::{Recorded, SymbolicAirBuilder};
 use air_symbolic::ExprId;
@@ -55,29 +55,20 @@ fn first_past<A: Copy>(numbers: &[ExprId<A>], total: usize) -> Option<ExprId<A>>
     numbers.iter().copied().find(|id| id.number() >= total)
 }
 
-/// The AIR that declares the recorded base constraints, in order: each recorded term is zero. Its main trace has
-/// `width` columns. Recorded extension constraints are left out.
-///
-/// It has no preprocessed trace until [`FlatAir::with_preprocessed`] adds one. Without it, an audit or a check of a row
-/// refuses a preprocessed column that a recorded term names (`MissingEntry`, or `RowOffset` at an offset past 1).
+/// The AIR that declares the recorded base constraints, in order: each recorded term is zero. Recorded extension
+/// constraints are left out. An audit or a check of a row refuses a preprocessed or periodic column or a public value
+/// that a recorded term names and `beside` lacks (`MissingEntry`, or `RowOffset` at an offset past 1).
 ///
 /// For the recording of an AIR the only error is `Memory`, and the declared list records that AIR's base constraints.
 /// If you assembled the numbers yourself, the first one outside the base pool is an error (`IndexPastTotal`). The nodes
 /// that the numbers reach are found here, once, which takes memory.
 pub fn recorded_air<F: Field, EF: ExtensionField<F>>(
     recorded: Recorded<F, EF>,
-    width: usize,
-    num_public_values: usize,
-    periodic: Vec<Vec<F>>,
-    cells: Vec<BoundaryPublic>,
+    beside: Beside<F>,
 ) -> Result<FlatAir<F>, AirError>
     ensures declared { IfOk result (λ a.
         (⟦<FlatAir<F> as BaseAir<F>>⟧.declaration a).constraints ≡ zero_at_recorded recorded) }
-    ensures width { IfOk result (λ a. a.width ≡ width) }
-    ensures num_public_values { IfOk result (λ a. a.num_public_values ≡ num_public_values) }
-    ensures preprocessed { IfOk result (λ a. a.preprocessed ≡ None) }
-    ensures periodic { IfOk result (λ a. a.periodic ≡ periodic) }
-    ensures cells { IfOk result (λ a. a.cells ≡ cells) }
+    ensures beside { IfOk result (λ a. a.beside ≡ beside) }
     ensures of_an_air { (declared : List (Assertion F)) →
         RecordsBase F.ring EF.over base_reads recorded.pool.base recorded.base declared →
         IfOk result (λ a.
@@ -96,6 +87,6 @@ pub fn recorded_air<F: Field, EF: ExtensionField<F>>(
             total,
         });
     }
-    let air = FlatAir::new(pool, base, width, num_public_values, periodic, cells)?;
+    let air = FlatAir::new(pool, base, beside)?;
     Ok(air)
 }

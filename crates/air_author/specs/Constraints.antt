@@ -10,6 +10,10 @@ pub record IsLabelled {S F : Type 0} (labelled : S → S → List (Labelled F) �
   pub said : IsSaid says label
   pub grown : labelled a b ((s, label) ∷ [])
 
+-- one relation of builders, and then another
+abbrev pub Then : {S : Type 0} → (S → S → Type 0) → (S → S → Type 0) → S → S → Type 0
+Then {S = S} P Q a c = (b : S) × P a b × Q b c
+
 -- the assertions of each element, in order
 abbrev pub asserts_of_each : {C A : Type 0} → (C → List A) → List C → List A
 asserts_of_each f [] = []

@@ -1,6 +1,8 @@
 //! Where constraints hold. An author writes `When`, which passes these to the constraints inside.
 ghost use Rattle.std.specs.Prelude.{⊤};
+ghost use Rattle.air_field.specs.Part.{Part, whole, in_mul_right};
 ghost use Rattle.air_field.specs.Term.{Term};
+ghost use Rattle.air_field.specs.laws.Part.{part_in};
 ghost use Rattle.air_builder.specs.Notation.{◌⊙◌};
 ghost use Rattle.air_author.specs.Expressions.{MakesIn, AlwaysAfter};
 
@@ -40,6 +42,9 @@ pub trait Condition<AB: AirBuilder> {
             builder.old }
         ensures { MakesIn ⟦<AB as ViewOver>⟧.view builder.old builder.new result
             (ext_under self.now (X.ext_term x.now)) };
+
+    /// A base term is a part of itself under the condition.
+    ghost keeps_part: { (s : Self) (t : Term AB.F) → Part t (under s t) };
 }
 
 /// No condition.
@@ -63,6 +68,8 @@ impl<AB: AirBuilder> Condition<AB> for Everywhere {
     {
         x.make_ext(builder)
     }
+
+    ghost keeps_part = { λ _ _. whole };
 }
 
 /// A condition and a selector inside it, which multiplies first.
@@ -88,4 +95,7 @@ impl<'a, AB: AirBuilder, K: Condition<AB>, S: Expression<AB>> Condition<AB> for 
     {
         self.0.make_ext_under(builder, &Times(x, &LiftedAt(self.1)))
     }
+
+    ghost keeps_part = { λ s t. part_in (in_mul_right whole)
+        (K.keeps_part s.0.now (S.term s.1.now ⊙ t)) };
 }

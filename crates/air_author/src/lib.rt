@@ -42,8 +42,8 @@ pub use constraints::when::When;
 pub use constraints::{Constraint, assert_all, assert_these};
 pub use expressions::already::Already;
 pub use expressions::arithmetic::{
-    BoolCheck, Difference, Double, Gated, Less, Negative, Product, Square, Sum, make_difference,
-    make_product, make_sum,
+    BoolCheck, Difference, Double, Gated, Less, Negative, Product, Square, Sum, Xor,
+    make_difference, make_product, make_sum,
 };
 pub use expressions::columns::{
     Current, Next, Periodic, PreprocessedCurrent, PreprocessedNext, Public,

@@ -2,8 +2,9 @@
 
 use crate::traces::{fibonacci_trace, wide_trace};
 use air_audit::{
-    Air, AirError, AirLayout, BaseAir, DebugConstraintBuilder, Field, FlatAir, RowMajorMatrix,
-    SymbolicAirBuilder, check_all_constraints, get_symbolic_constraints, recorded_air,
+    Air, AirError, AirLayout, BaseAir, Beside, DebugConstraintBuilder, Field, FlatAir,
+    RowMajorMatrix, SymbolicAirBuilder, check_all_constraints, get_symbolic_constraints,
+    recorded_air,
 };
 use example_fibonacci::Fibonacci;
 use std::alloc::Global;
@@ -85,7 +86,7 @@ fn flat_of<F: Field, A: BaseAir<F> + Air<SymbolicAirBuilder<F, F>>>(
 ) -> Result<FlatAir<F>, AirError> {
     let layout = AirLayout::from_air::<F, A>(air);
     let recorded = get_symbolic_constraints::<F, A>(alloc, air, layout)?;
-    recorded_air(recorded, 64, 0, Vec::new(alloc), Vec::new(alloc))
+    recorded_air(recorded, Beside::new(alloc, 64, 0))
 }
 
 // Checks a recorded AIR on the wide trace, and counts as `count_checked`.

@@ -1,11 +1,12 @@
 -- The consequences of a check of a trace of compressions.
-use Rattle.std.specs.Prelude.{◌≡◌, ℕ, ◌*◌, ◌^◌, ◌<◌, [], length, Bool, Option, None}
+use Rattle.std.specs.Prelude.{◌≡◌, ℕ, ◌*◌, ◌^◌, ◌<◌, ◌↔◌, [], length, Bool, true, Option, None}
 use Rattle.air_field.specs.Assignment.{row_assignment}
 use Rattle.air_field.specs.Grid.{Grid}
 use Rattle.air_field.specs.Ring.{CommRing}
 use Rattle.air_builder.specs.Declaration.{plain_declaration}
 use Rattle.air_report.specs.Instances.{Instance, instance, instance_trace}
-use Rattle.air_report.specs.Checks.{IsReport}
+use Rattle.air_report.specs.Checks.{CheckRefuses, IsReport}
+use Rattle.air_core.specs.declared.errors.AirError.{AirError}
 use Rattle.air_report.specs.declared.checks.report.ConstraintReport.{ConstraintReport}
 use Rattle.air_blake3.specs.Row.{compression}
 use Rattle.air_blake3.specs.Holding.{HoldsCompression}
@@ -14,6 +15,17 @@ use Rattle.air_blake3.specs.Traces.{AreCompressionRows}
 -- `Compression` on a trace, as a check sees it
 abbrev pub compression_instance : {F : Type 0} → CommRing F → Grid F → Instance F
 compression_instance R main = instance (plain_declaration (compression R) 9168 0) main []
+
+-- The answer of a check without a cap: the trace has an exact report, and the answer is true exactly if the report lists no
+-- failure.
+pub record AnswersCheck {F : Type 0} (R : CommRing F) (eq : F → F → Bool) (main : Grid F) (answer : Bool) : Type 0 where
+  pub report : ConstraintReport
+  pub exact : IsReport R eq (compression_instance R main) None report
+  pub is_empty : (answer ≡ true) ↔ (report.failures.items ≡ [])
+
+-- the errors of a check without a cap
+abbrev pub RefusesCheck : {F : Type 0} → CommRing F → (F → F → Bool) → Grid F → AirError → Type 0
+RefusesCheck R eq main e = CheckRefuses R eq (compression_instance R main) None e
 
 -- at each row, the output columns hold the BLAKE3 compression of the block in the input columns
 abbrev pub AreCompressions : {F : Type 0} → CommRing F → Grid F → Type 0

@@ -7,6 +7,8 @@ use Rattle.air_field.specs.Ring.{CommRing}
 use Rattle.blake3.specs.Compression.{Block}
 use Rattle.air_blake3.specs.Values.{block_row, IsCompressionRow}
 use Rattle.air_blake3.specs.declared.blocks.InputBlock.{InputBlock}
+use Rattle.air_blake3.specs.declared.traces.TraceError.{TraceError}
+use Rattle.air_blake3.specs.declared.traces.TraceError.TheVariants.{Memory, TooManyRows}
 
 -- an `InputBlock` of the code as a `Block` of the definition
 abbrev pub block_in : InputBlock → Block
@@ -50,3 +52,12 @@ SatisfyAll R none characteristic main = 3 * 2 ^ 16 < characteristic → AreCompr
 -- the trace of this many blocks, padded to a power of two of rows, has too many values for `usize`
 abbrev pub IsTooMany : ℕ → Type 0
 IsTooMany blocks = (rows : ℕ) × IsNextPowerOfTwo blocks rows × (2 ^ 64 ≤ rows * 9168)
+
+-- its number of values fits `usize`
+abbrev pub IsCountable : ℕ → Type 0
+IsCountable blocks = (rows : ℕ) × IsNextPowerOfTwo blocks rows × (rows * 9168 < 2 ^ 64)
+
+-- the errors of making it: too many values, or else out of memory
+abbrev pub RefusesTrace : ℕ → TraceError → Type 0
+RefusesTrace blocks TooManyRows = IsTooMany blocks
+RefusesTrace blocks Memory = IsCountable blocks

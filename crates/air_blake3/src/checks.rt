@@ -1,6 +1,6 @@
 //! Checks of compressions.
-ghost use Rattle.std.specs.Prelude.{◌≡◌, true, IfOk};
-ghost use Rattle.air_blake3.specs.Checks.{EmptyReportsAreSound, HoldCompressions, ReportsAreEmpty};
+ghost use Rattle.std.specs.Prelude.{◌≡◌, true, IfOk, IfErr};
+ghost use Rattle.air_blake3.specs.Checks.{AnswersCheck, EmptyReportsAreSound, HoldCompressions, RefusesCheck, ReportsAreEmpty};
 ghost use Rattle.air_blake3.specs.Traces.{AreCompressionRows};
 
 use crate::compression::Compression;
@@ -29,10 +29,18 @@ pub fn empty_report_is_sound<F: PrimeField>()
 /// Whether a check of the trace lists no failure. If it lists none, then at each row the output columns hold the BLAKE3
 /// compression of the block in the input columns, over a field whose characteristic is above 3 · 2^16. If each row
 /// satisfies all constraints, whatever the other values at the row are, the check lists none.
+///
+/// # Errors
+///
+/// Those of `check_all_constraints`: if the trace has rows, a column that it lacks; otherwise only `Memory`.
 pub fn are_compressions<F: PrimeField + 'static>(
     alloc: Global,
     trace: &RowMajorMatrix<F>,
 ) -> Result<bool, AirError>
+    ensures answer { IfOk result (AnswersCheck F.ring F.eq trace.now) }
+    ensures refused { IfErr result (RefusesCheck F.ring F.eq trace.now) }
+
+    // consequences of the answer
     ensures sound { IfOk result (λ ok. ok ≡ true
         → HoldCompressions F.ring F.CHARACTERISTIC trace.now) }
     ensures complete { IfOk result (λ ok. AreCompressionRows F.ring F.ZERO trace.now → ok ≡ true) }

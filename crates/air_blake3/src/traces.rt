@@ -5,7 +5,7 @@ ghost use Rattle.air_author.specs.Constraints.{asserts_of_first};
 ghost use Rattle.blake3.specs.Sizes.{AreBlockWords};
 ghost use Rattle.air_blake3.specs.Values.{block_row};
 ghost use Rattle.air_blake3.specs.Checks.{ListNothing};
-ghost use Rattle.air_blake3.specs.Traces.{HoldBlocks, IsTooMany, SatisfyAll, block_for, block_in};
+ghost use Rattle.air_blake3.specs.Traces.{HoldBlocks, IsTooMany, RefusesTrace, SatisfyAll, block_for, block_in};
 ghost use Rattle.air_blake3.specs.declared.traces.TraceError.TheVariants.{Memory};
 
 use crate::blocks::{InputBlock, ZERO_BLOCK};
@@ -36,6 +36,7 @@ impl From<AllocError> for TraceError {
 fn row_count(blocks: usize) -> Result<usize, TraceError>
     ensures rows { IfOk result (IsNextPowerOfTwo blocks) }
     ensures fits { IfOk result (λ rows. rows * 9168 < 2 ^ 64) }
+    ensures why { IfErr result (λ why. why ≡ TraceError.TooManyRows) }
     ensures refused { IfErr result (λ why. IsTooMany blocks) }
 {
     match blocks.checked_next_power_of_two() {
@@ -88,8 +89,8 @@ fn push_rows<F: Field>(values: &mut Vec<F>, blocks: &[InputBlock], rows: usize) 
 ///
 /// # Errors
 ///
-/// `TooManyRows`, only if the number of the trace's values doesn't fit `usize`, which is tested before any memory is
-/// taken; otherwise `Memory`.
+/// `TooManyRows` if the number of the trace's values doesn't fit `usize`, which is tested before any memory is taken;
+/// `Memory` only if it fits.
 pub fn trace_of_blocks<F: PrimeField>(
     alloc: Global,
     blocks: &[InputBlock],
@@ -100,8 +101,8 @@ pub fn trace_of_blocks<F: PrimeField>(
     ensures blocks { IfOk result (HoldBlocks F.ring blocks.now) }
     ensures satisfied { IfOk result (SatisfyAll F.ring F.ZERO F.CHARACTERISTIC) }
     ensures reports { IfOk result (ListNothing F.ring F.eq F.CHARACTERISTIC) }
-    ensures refused { IfErr result (λ why. why ≡ TraceError.TooManyRows → IsTooMany
-        (length blocks.now)) }
+    ensures countable { IfOk result (λ trace. length trace.rows * 9168 < 2 ^ 64) }
+    ensures refused { IfErr result (RefusesTrace (length blocks.now)) }
 {
     compression_is_complete::<F>();
     let rows = row_count(blocks.len())?;

@@ -7,8 +7,7 @@ ghost use Rattle.air_blake3.specs.Row.{constant_limbs, limbs_are};
 ghost use Rattle.air_blake3.specs.Words.{bits_at, column, limbs_at, packed_limbs, map_terms};
 
 use air_author::{
-    AirResult, Condition, Constraint, Current, Difference, Double, Equal, Expression, Family,
-    Number, Product, Sum,
+    AirResult, Condition, Constraint, Current, Equal, Expression, Family, Number, Xor,
 };
 use air_builder::AirBuilder;
 use air_gadgets::{Add2, Add3, Bits, Columns, Packed, Series, Word};
@@ -29,6 +28,7 @@ impl<AB: AirBuilder> Series<AB> for Half {
         16
     }
 
+    #[inline(always)]
     fn make_at(&self, index: usize, builder: &mut AB) -> AirResult<AB::Expr> {
         Current(self.first as usize + (self.from as usize + index)).make(builder)
     }
@@ -194,7 +194,6 @@ impl<AB: AirBuilder> Family<AB> for BitXors {
         let x = Current(self.0 as usize + index);
         let y = Current(self.1 as usize + index);
         let z = Current(self.2 as usize + index);
-        let xor = Difference(Sum(x, y), Double(Product(x, y)));
-        Equal(z, xor).assert_under(builder, condition)
+        Equal(z, Xor(x, y)).assert_under(builder, condition)
     }
 }

@@ -69,6 +69,14 @@ abbrev pub LabelsBoth : {S R E F : Type 0} → BuilderView S R E F → (S → S 
     → (Term F → Term F → Term F) → (ℕ → Option (List ℕ) → Type 0) → S → S → List (E × E) → Result ⊤ AirError → Type 0
 LabelsBoth view labelled kind op says a b ps result = LabelledEach (AssertsOfBoth kind (MeansIn view) op) labelled says a b ps result
 
+-- the builder grew by these assertions, the one at place i under a label that the name at i may display
+pub record LabelledBy {S F : Type 0} (labelled : S → S → List (Labelled F) → Type 0)
+    (says : ℕ → Option (List ℕ) → Type 0) (a b : S) (ts : List (Assertion F)) : Type 0 where
+  pub list : List (Labelled F)
+  pub asserted : without_labels list ≡ ts
+  pub said : AreSaidFrom says 0 (map (λ l. l.1) list)
+  pub grown : labelled a b list
+
 -- The laws of every named builder. Growth under labels is growth; growth by nothing leaves the labels.
 pub record NamedLaws {S F : Type 0} (grew : S → S → List (Assertion F) → Type 0) (labelled : S → S → List (Labelled F) → Type 0) : Type 0 where
   pub labelled_nothing : (a b : S) → grew a b [] → labelled a b []

@@ -11,6 +11,7 @@ pub use air_core::{
     Name, Namespace, NamespaceExt, RowWindow, TwoRows, WindowAccess,
 };
 pub use airs::air::{Air, BaseAir};
+pub use airs::beside::Beside;
 pub use builders::air_builder::AirBuilder;
 pub use builders::assert_all::AssertAll;
 pub use builders::assert_all_ext::AssertAllExt;

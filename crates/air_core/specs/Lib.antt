@@ -9,3 +9,4 @@ pub mod Periodic
 pub mod Texts
 pub mod Errors
 pub mod WindowShapes
+pub mod Selectors

@@ -75,6 +75,12 @@ pub enum AirError {
         preprocessed: usize,
         main: usize,
     },
+    /// The permutation trace and the main trace differ in height.
+    #[error("the permutation trace has {permutation} rows, the trace {main}")]
+    PermutationHeight {
+        permutation: usize,
+        main: usize,
+    },
     /// The length of a periodic column is no power of two.
     #[error("periodic column {index} has length {length}, no power of two")]
     PeriodNotPowerOfTwo {

@@ -1,11 +1,12 @@
 //! What AIRs, builders and pools share: the entries of a builder and the variables that index into them, windows on
-//! rows, periodic columns, boundary values, names of constraints, and errors.
+//! rows, selectors, periodic columns, boundary values, names of constraints, and errors.
 #![tactic(auto)]
 
 pub mod boundary;
 pub mod errors;
 pub mod names;
 pub mod periodic;
+pub mod selectors;
 pub mod variables;
 pub mod windows;
 
@@ -16,6 +17,7 @@ pub use names::joined::{EvaluatedJoined, Joined};
 pub use names::name::{Lazy, Name};
 pub use names::namespace::{Namespace, NamespaceExt};
 pub use periodic::{fill_periodic_row, periodic_matrix, periodic_row};
+pub use selectors::Selectors;
 pub use variables::entry::BaseEntry;
 pub use variables::ext_entry::ExtEntry;
 pub use variables::variable::SymbolicVariable;

@@ -1,5 +1,5 @@
 //! Periodic columns, row by row.
-ghost use Rattle.std.specs.Prelude.{◌≡◌, map, Some, OnOk, IfErr};
+ghost use Rattle.std.specs.Prelude.{◌≡◌, map, Some, [], OnOk, OnErr, IfErr};
 ghost use Rattle.air_core.specs.Periodic.{column_at, HasRows, IsGreatestPeriod, MatchPeriodicMatrix, MatchPeriodicValues, RefusesPeriodicRow};
 
 use crate::errors::AirError;
@@ -36,17 +36,22 @@ pub fn periodic_row<T: Copy>(
 }
 
 /// Replaces the list's contents by [`periodic_row`], and allocates only if the list has no room for the columns. Fails
-/// with `EmptyPeriodicColumn` for the first empty column, or with `Memory`; the list's contents are then unspecified.
+/// with `EmptyPeriodicColumn` for the first empty column, or with `Memory`; the list is then empty.
 pub fn fill_periodic_row<T: Copy>(
     values: &mut Vec<T>,
     columns: &[Vec<T>],
     row: usize,
 ) -> Result<(), AirError>
     ensures filled { OnOk result (map Some values.new.items ≡ map (column_at row) columns.now) }
+    ensures emptied { OnErr result (values.new.items ≡ []) }
     ensures refused { IfErr result (RefusesPeriodicRow columns.now) }
 {
     values.clear();
-    push_row(values, columns, row)
+    let filled = push_row(values, columns, row);
+    if filled.is_err() {
+        values.clear();
+    }
+    filled
 }
 
 /// The greatest period, 0 if there are no columns.

@@ -4,6 +4,7 @@ use Rattle.std.specs.Global.{Global}
 use Rattle.air_field.specs.Ring.{CommRing}
 use Rattle.air_field.specs.Term.{Term}
 use Rattle.air_builder.specs.Assertion.{Assertion, Base}
+use Rattle.air_builder.specs.declared.airs.beside.Beside.{Beside}
 use Rattle.air_core.specs.declared.errors.AirError.{AirError}
 use Rattle.air_audit.specs.RecordedAirs.{RecordsBaseTerms}
 use Rattle.air_audit.specs.RootLabels.{bytes_or_none}
@@ -11,6 +12,16 @@ use Rattle.air_draft.specs.declared.claim.Claim.{Claim}
 use Rattle.air_draft.specs.declared.draft.Draft.{Draft}
 use Rattle.air_draft.specs.DraftTerms.{step_terms, term_at, claim_term}
 use Rattle.air_draft.specs.Making.{MakingRefuses, SomeOverflows}
+
+-- what a draft's AIR has beside its constraints
+abbrev pub beside_of : {F : Type 0} → Draft F → Beside F
+beside_of d = record {
+  width = d.width;
+  num_public_values = d.num_public_values;
+  preprocessed = d.preprocessed;
+  periodic = d.periodic;
+  cells = d.boundary;
+}
 
 -- what each claim says to be zero, in order
 abbrev pub claim_terms : {F : Type 0} → F → Draft F → List (Term F)

@@ -4,13 +4,13 @@ ghost use Rattle.std.specs.Prelude.{◌≡◌, length, map, None, IfOk, IfErr, s
 ghost use Rattle.air_symbolic.specs.BaseLeaves.{base_reads};
 ghost use Rattle.air_symbolic.specs.Pools.{PoolMeans};
 ghost use Rattle.air_draft.specs.Making.{MakingRefuses};
-ghost use Rattle.air_draft.specs.Drafts.{claim_terms, RecordsDraft, claim_label, claim_labels, DraftOverflows, DraftRefuses};
+ghost use Rattle.air_draft.specs.Drafts.{beside_of, claim_terms, RecordsDraft, claim_label, claim_labels, DraftOverflows, DraftRefuses};
 
 use crate::claim::Claim;
 use crate::draft::Draft;
 use crate::roots::make_roots;
 use crate::steps::make_steps;
-use air_audit::{BaseAir, FlatAir};
+use air_audit::{BaseAir, Beside, FlatAir};
 use air_core::AirError;
 use air_field::Field;
 use air_symbolic::{BaseLeaf, ExprId, ExprPool};
@@ -83,11 +83,7 @@ impl<F: Field> Draft<F> {
     pub fn into_air(self) -> Result<FlatAir<F>, AirError>
         ensures records { IfOk result (λ a. RecordsDraft F.ring F.ONE self
             (⟦<FlatAir<F> as BaseAir<F>>⟧.declaration a).constraints) }
-        ensures width { IfOk result (λ a. a.width ≡ self.width) }
-        ensures public_values { IfOk result (λ a. a.num_public_values ≡ self.num_public_values) }
-        ensures preprocessed { IfOk result (λ a. a.preprocessed ≡ self.preprocessed) }
-        ensures periodic { IfOk result (λ a. a.periodic ≡ self.periodic) }
-        ensures boundary { IfOk result (λ a. a.cells ≡ self.boundary) }
+        ensures beside { IfOk result (λ a. a.beside ≡ beside_of self) }
         ensures labels { IfOk result (λ a. map string_bytes a.labels.items
             ≡ claim_labels self.labels.items self.claims.items) }
         ensures faultless { IfOk result (λ _. self.fault ≡ None) }
@@ -109,11 +105,14 @@ impl<F: Field> Draft<F> {
             boundary,
             ..
         } = self;
-        let air = FlatAir::new(pool, roots, width, num_public_values, periodic, boundary)?;
-        let air = air.with_labels(labels);
-        match preprocessed {
-            Some(table) => Ok(air.with_preprocessed(table)),
-            None => Ok(air),
-        }
+        let beside = Beside {
+            width,
+            num_public_values,
+            preprocessed,
+            periodic,
+            cells: boundary,
+        };
+        let air = FlatAir::new(pool, roots, beside)?;
+        Ok(air.with_labels(labels))
     }
 }

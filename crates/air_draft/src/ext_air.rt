@@ -4,7 +4,7 @@ ghost use Rattle.std.specs.Prelude.{◌≡◌, length, map, max, None, IfOk, IfE
 ghost use Rattle.air_symbolic.specs.ExtLeaves.{ext_reads};
 ghost use Rattle.air_symbolic.specs.Pools.{IsPool};
 ghost use Rattle.air_draft.specs.Making.{MakingRefuses};
-ghost use Rattle.air_draft.specs.Drafts.{claim_labels};
+ghost use Rattle.air_draft.specs.Drafts.{beside_of, claim_labels};
 ghost use Rattle.air_draft.specs.ExtRoots.{RootMeans};
 ghost use Rattle.air_draft.specs.ExtDrafts.{ext_declared_by, RecordsExtDraft, ExtDraftOverflows, ExtDraftRefuses};
 
@@ -14,7 +14,7 @@ use crate::ext_draft::ExtDraft;
 use crate::ext_roots::make_any_roots;
 use crate::ext_steps::make_ext_steps;
 use crate::steps::make_steps;
-use air_audit::{BaseAir, FlatExtAir, Root};
+use air_audit::{BaseAir, Beside, FlatExtAir, Root};
 use air_core::AirError;
 use air_field::{ExtensionField, Field};
 use air_symbolic::{ExprPool, ExtLeaf};
@@ -61,12 +61,7 @@ impl<F: Field, EF: ExtensionField<F>> ExtDraft<F, EF> {
     pub fn into_air(self) -> Result<FlatExtAir<F, EF>, AirError>
         ensures records { IfOk result (λ a. RecordsExtDraft F.ring EF.over F.ONE EF.basis self
             (⟦<FlatExtAir<F, EF> as BaseAir<F>>⟧.declaration a).constraints) }
-        ensures width { IfOk result (λ a. a.width ≡ self.base.width) }
-        ensures public_values { IfOk result (λ a. a.num_public_values
-            ≡ self.base.num_public_values) }
-        ensures preprocessed { IfOk result (λ a. a.preprocessed ≡ self.base.preprocessed) }
-        ensures periodic { IfOk result (λ a. a.periodic ≡ self.base.periodic) }
-        ensures boundary { IfOk result (λ a. a.cells ≡ self.base.boundary) }
+        ensures beside { IfOk result (λ a. a.beside ≡ beside_of self.base) }
         ensures labels { IfOk result (λ a. map string_bytes a.labels.items
             ≡ claim_labels self.base.labels.items self.base.claims.items) }
         ensures faultless { IfOk result (λ _. self.base.fault ≡ None) }
@@ -89,11 +84,14 @@ impl<F: Field, EF: ExtensionField<F>> ExtDraft<F, EF> {
             boundary,
             ..
         } = base;
-        let air = FlatExtAir::new(pool, roots, width, num_public_values, periodic, boundary)?;
-        let air = air.with_labels(labels);
-        match preprocessed {
-            Some(table) => Ok(air.with_preprocessed(table)),
-            None => Ok(air),
-        }
+        let beside = Beside {
+            width,
+            num_public_values,
+            preprocessed,
+            periodic,
+            cells: boundary,
+        };
+        let air = FlatExtAir::new(pool, roots, beside)?;
+        Ok(air.with_labels(labels))
     }
 }

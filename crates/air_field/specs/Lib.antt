@@ -1,6 +1,7 @@
 pub mod Ring
 pub mod RingOps
 pub mod Domain
+pub mod Distinct
 pub mod Coefficients
 pub mod Powers
 pub mod Extension

@@ -34,3 +34,6 @@ pub mod BinomialDomain
 pub mod Inverse
 pub mod Rows
 pub mod Part
+pub mod Roots
+pub mod Distinct
+pub mod Characteristic

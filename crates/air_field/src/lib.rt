@@ -19,7 +19,7 @@ pub use fields::modulus::Modulus;
 pub use fields::order::{extension_order, field_order};
 pub use fields::residue::Residue;
 pub use fields::self_extension::SelfExtension;
-pub use matrices::matrix::RowMajorMatrix;
+pub use matrices::matrix::{RowMajorMatrix, row_after};
 pub use matrices::view::{RowMajorMatrixView, ViewPair};
 pub use rings::algebra::{Algebra, FromVar};
 pub use rings::ext_algebra::ExtAlgebra;

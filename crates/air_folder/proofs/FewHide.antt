@@ -1,21 +1,22 @@
 -- If one of K values isn't zero, fewer than K distinct elements fold the values to zero.
-use Rattle.std.specs.Prelude.{◌≡◌, refl, ◌+◌, ◌<◌, List, [], ◌∷◌, ◌++◌, length, Bool, true, false, cond, count_by}
-use Rattle.std.specs.List.{filter}
+use Rattle.std.specs.Prelude.{◌≡◌, ◌≢◌, refl, ◌+◌, ◌<◌, List, [], ◌∷◌, ◌++◌, length, All, Bool, true, count_by}
 use Rattle.std.proofs.Common.{Ordering, Less, Equal, Greater}
 use Rattle.std.specs.Ordering.{ordering_reverse}
 use Rattle.std.specs.Cmp.{IsTotalOrder}
-use Rattle.std.proofs.Common.{sym, ◌∙◌, ap, ap₂, inl, inr, arith, length-append}
-use Rattle.std.proofs.lemmas.Bool.{cases_lt}
-use Rattle.std.proofs.lemmas.List.Sums.{length-filter}
+use Rattle.std.proofs.Common.{sym, ◌∙◌, ap, ap₂, subst, arith, length-append}
+use Rattle.std.proofs.lemmas.List.Elements.{All-cons, All-nil}
+use Rattle.std.proofs.lemmas.List.Kept.{AllPairs-cons}
+use Rattle.air_field.specs.Distinct.{Distinct}
 use Rattle.air_field.specs.Domain.{IsDomain}
 use Rattle.air_field.specs.Ring.{CommRing, AllZero}
 use Rattle.air_field.specs.Powers.{power}
+use Rattle.air_field.specs.laws.Distinct.{count_fewer}
 use Rattle.air_field.specs.laws.Ring.{zero_add, one_mul, ring_rules}
 use Rattle.air_field.specs.laws.RingSolver.{var, plus, times, ring}
+use Rattle.air_field.specs.laws.Roots.{few_roots, poly_value}
 use Rattle.air_recording.specs.Folds.{sum_by_powers}
 use Rattle.air_folder.specs.laws.Fold.{sum_by_powers-first}
 use Rattle.air_folder.specs.Hiding.{IsBelowAll, IsIncreasing}
-use Rattle.air_folder.proofs.Roots.{DiffersFromAll, Distinct, poly_value, AllRoots, nil_of_roots}
 
 -- the values in reverse order: the coefficients of their fold, lowest first
 abbrev backwards : {A : Type 0} → List A → List A
@@ -60,51 +61,24 @@ module _ {A : Type 0} (r : CommRing A) where
   all_zero-backwards (v ∷ vs) h =
       let rest : AllZero r (backwards vs) × (v ≡ r.zero) = all_zero-append (backwards vs) v h in (rest.1, all_zero-backwards vs rest.0)
 
--- a filter keeps distinct elements distinct
-kept-differs : {A : Type 0} (p : A → Bool) (y : A) (xs : List A) → DiffersFromAll y xs → DiffersFromAll y (filter p xs)
-kept-differs p y [] h = tt
-kept-differs p y (x ∷ xs) h =
-    elim (p x) as (λ b. DiffersFromAll y (cond b (x ∷ filter p xs) (filter p xs)))
-    [ true ↦ (h.0, kept-differs p y xs h.1) | false ↦ kept-differs p y xs h.1 ]
-
-kept-distinct : {A : Type 0} (p : A → Bool) (xs : List A) → Distinct xs → Distinct (filter p xs)
-kept-distinct p [] h = tt
-kept-distinct p (x ∷ xs) h =
-    elim (p x) as (λ b. Distinct (cond b (x ∷ filter p xs) (filter p xs)))
-    [ true ↦ (kept-differs p x xs h.0, kept-distinct p xs h.1) | false ↦ kept-distinct p xs h.1 ]
-
-module _ {A : Type 0} (r : CommRing A) where
-  kept-roots-step : (cs : List A) (p : A → Bool) (x : A) (xs : List A) (b : Bool) → (b ≡ true → poly_value r cs x ≡ r.zero) → AllRoots r cs (filter p xs) → AllRoots r cs (cond b (x ∷ filter p xs) (filter p xs))
-  kept-roots-step cs p x xs true told rest = (told refl, rest)
-  kept-roots-step cs p x xs false told rest = rest
-
-  kept-roots : (cs : List A) (p : A → Bool) → ((x : A) → p x ≡ true → poly_value r cs x ≡ r.zero) → (xs : List A) → AllRoots r cs (filter p xs)
-  kept-roots cs p told [] = tt
-  kept-roots cs p told (x ∷ xs) = kept-roots-step cs p x xs (p x) (told x) (kept-roots cs p told xs)
-
   -- fewer elements than values fold the values to zero, unless all values are zero
-  pub few_hide : IsDomain r → (p : A → Bool) (vs alphas : List A) → ((x : A) → p x ≡ true → sum_by_powers r x vs ≡ r.zero) → Distinct alphas → (AllZero r vs → ⊥) → count_by p alphas < length vs
+  pub few_hide : IsDomain r → (p : A → Bool) (vs alphas : List A) → ((x : A) → p x ≡ true → sum_by_powers r x vs ≡ r.zero)
+      → Distinct alphas → (AllZero r vs → ⊥) → count_by p alphas < length vs
   few_hide domain p vs alphas told distinct some =
-      elim (cases_lt (count_by p alphas) (length vs)) [
-        | inl less ↦ less
-        | inr more ↦
-            absurd (some (all_zero-backwards r vs
-            (nil_of_roots r domain (backwards vs) (filter p alphas) (kept-distinct p alphas distinct)
-            (kept-roots (backwards vs) p (λ x h. sym (sum_by_powers-backwards r vs x) ∙ told x h) alphas)
-            (omega (arith, backwards-length vs, length-filter p alphas)))))
-      ]
+      subst (λ n. count_by p alphas < n) (backwards-length vs)
+      (count_fewer p (λ x h. sym (sum_by_powers-backwards vs x) ∙ told x h) alphas distinct
+      (few_roots r domain (backwards vs) (λ none. some (all_zero-backwards vs none))))
 
 -- ---- elements in increasing order
-differs_from_above : {A : Type 0} (cmp : A → A → Ordering) → ((x : A) → cmp x x ≡ Equal) → (x : A) (ys : List A) → IsBelowAll cmp x ys → DiffersFromAll x ys
-differs_from_above cmp own x [] h = tt
-differs_from_above cmp own x (y ∷ ys) h = (
-  (λ e. let same : Less ≡ Equal = sym h.0 ∙ (ap (cmp x) (sym e) ∙ own x) in cc),
-  differs_from_above cmp own x ys h.1,
-)
+differs_from_above : {A : Type 0} (cmp : A → A → Ordering) → ((x : A) → cmp x x ≡ Equal) → (x : A) (ys : List A) → IsBelowAll cmp x ys → All (λ y. x ≢ y) ys
+differs_from_above cmp own x [] h = All-nil (λ y. x ≢ y)
+differs_from_above cmp own x (y ∷ ys) h =
+    All-cons (λ z. x ≢ z) y ys (λ e. let same : Less ≡ Equal = sym h.0 ∙ (ap (cmp x) (sym e) ∙ own x) in cc) (differs_from_above cmp own x ys h.1)
 
 distinct_of_increasing : {A : Type 0} (cmp : A → A → Ordering) → ((x : A) → cmp x x ≡ Equal) → (xs : List A) → IsIncreasing cmp xs → Distinct xs
-distinct_of_increasing cmp own [] h = tt
-distinct_of_increasing cmp own (x ∷ xs) h = (differs_from_above cmp own x xs h.0, distinct_of_increasing cmp own xs h.1)
+distinct_of_increasing cmp own [] h = λ i j d lt within. absurd (omega (arith, within))
+distinct_of_increasing cmp own (x ∷ xs) h =
+    AllPairs-cons (λ y z. y ≢ z) x xs (differs_from_above cmp own x xs h.0) (distinct_of_increasing cmp own xs h.1)
 
 own_reverse : (o : Ordering) → o ≡ ordering_reverse o → o ≡ Equal
 own_reverse Less h = cc

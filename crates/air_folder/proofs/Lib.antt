@@ -1,3 +1,2 @@
-pub mod Roots
 pub mod FewHide
 pub mod FoldedAirs

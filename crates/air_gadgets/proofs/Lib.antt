@@ -9,3 +9,4 @@ mod Asserting
 mod PackedXors
 mod ZipLaws
 mod Packing
+mod Sharing

@@ -130,10 +130,10 @@ module _ {S : Type 0} (f : ℕ → Tree S) where
     steps_within : (size n : ℕ) (node : SymbolicExpr A) → n < size → OperandsBelow n node → Within size (steps_of n node)
     unfolding Within
     steps_within size n (Leaf a) h k = (h, tt)
-    steps_within size n (Add x y d) h k = (h, (omega (arith, k.1), (omega (arith, k.0), tt)))
-    steps_within size n (Sub x y d) h k = (h, (omega (arith, k.1), (omega (arith, k.0), tt)))
-    steps_within size n (Neg x d) h k = (h, (omega (arith, k), tt))
-    steps_within size n (Mul x y d) h k = (h, (omega (arith, k.1), (omega (arith, k.0), tt)))
+    steps_within size n (Add x y d) h k = (h, (let low = k 1 y (omega arith) in omega (arith, low, h), (let low = k 0 x (omega arith) in omega (arith, low, h), tt)))
+    steps_within size n (Sub x y d) h k = (h, (let low = k 1 y (omega arith) in omega (arith, low, h), (let low = k 0 x (omega arith) in omega (arith, low, h), tt)))
+    steps_within size n (Neg x d) h k = (h, (let low = k 0 x (omega arith) in omega (arith, low, h), tt))
+    steps_within size n (Mul x y d) h k = (h, (let low = k 1 y (omega arith) in omega (arith, low, h), (let low = k 0 x (omega arith) in omega (arith, low, h), tt)))
 
     pub look_within : (size : ℕ) (xs : List (ℕ × Bool)) (n : ℕ) (node : SymbolicExpr A) → Within size (xs ++ (n, false) ∷ []) → OperandsBelow n node → Within size (xs ++ steps_of n node)
     look_within size xs n node h k = within_append size xs (steps_of n node) (within_front size xs ((n, false) ∷ []) h) (steps_within size n node (within_last size xs (n, false) h) k)

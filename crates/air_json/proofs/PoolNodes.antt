@@ -1,13 +1,15 @@
 -- The nodes of a pool as they are written.
-use Rattle.std.proofs.Common.{◌≡◌, ℕ, suc, zero, ◌<◌, ◌≤◌, Bool, true, false, List, [], ◌∷◌, ◌++◌, length, Option, Some, None, option_map, unwrap_or, codes, refl, sym, ap, ap₂, subst, ◌∙◌, arith}
+use Rattle.std.proofs.Common.{◌≡◌, ℕ, suc, zero, ◌<◌, ◌≤◌, Bool, true, false, List, [], ◌∷◌, ◌++◌, length, All, Option, Some, None, option_map, unwrap_or, codes, refl, sym, ap, ap₂, subst, ◌∙◌, arith}
 use Rattle.std.specs.Prelude.{⊤}
 use Rattle.std.specs.List.{slice_get}
 use Rattle.std.specs.Option.{is_some}
 use Rattle.std.proofs.Math.ListN.{set}
+use Rattle.std.proofs.lemmas.List.Elements.{All-nil}
 use Rattle.serde_json.specs.Data.{Data}
 use Rattle.air_symbolic.specs.Leaves.{Leaves}
 use Rattle.air_symbolic.specs.Trees.{Tree, leaf_tree, add_tree, sub_tree, neg_tree, mul_tree, both, AllValid, IsValidTree}
-use Rattle.air_symbolic.specs.Nodes.{unfold_node, tree_of, NodeFits, stated_degree, OperandsBelow, IsNode}
+use Rattle.air_symbolic.specs.Nodes.{unfold_node, tree_of, NodeFits, IsValidNode, stated_degree, OperandsBelow, IsNode}
+use Rattle.air_symbolic.specs.laws.Nodes.{of_one, of_two}
 use Rattle.air_symbolic.specs.laws.Numbers.{tree_of-valid}
 use Rattle.air_symbolic.specs.laws.Sharing.{shared}
 use Rattle.air_symbolic.specs.Pools.{Pool, IsPool, tree_at}
@@ -42,13 +44,19 @@ module _ {A S F : Type 0} (kind : Kind S F) (seen : A → S) (f : ℕ → Tree S
       by_entry (None, e) = absurd (t.missing x e s)
       by_entry (Some i, e) = (i, e)
 
-  ready_of : (valid : A → Type 0) (n : ℕ) (node : SymbolicExpr A) → n < size → OperandsBelow n node → ((a : A) → node ≡ Leaf a → valid a) → HasOperands done (node_tree seen f node) → IsWritable valid places node
+  both_placed : (n x y : ℕ) → n < size → All (λ z. z < n) (x ∷ y ∷ []) → IsAmong done (f x) × IsAmong done (f y) → All (Placed places) (x ∷ y ∷ [])
+  both_placed n x y h below has =
+      let low = below 0 x (omega arith) in
+      let other = below 1 y (omega arith) in
+      of_two (Placed places) x y (placed_at x (omega (arith, low, h)) has.0) (placed_at y (omega (arith, other, h)) has.1)
+
+  ready_of : (valid : A → Type 0) (n : ℕ) (node : SymbolicExpr A) → n < size → OperandsBelow n node → IsValidNode valid node → HasOperands done (node_tree seen f node) → IsWritable valid places node
   unfolding HasOperands
-  ready_of valid n (Leaf a) h below leaf has = leaf a refl
-  ready_of valid n (Add x y d) h below leaf has = (placed_at x (omega (arith, below.0, h)) has.0, placed_at y (omega (arith, below.1, h)) has.1)
-  ready_of valid n (Sub x y d) h below leaf has = (placed_at x (omega (arith, below.0, h)) has.0, placed_at y (omega (arith, below.1, h)) has.1)
-  ready_of valid n (Neg x d) h below leaf has = placed_at x (omega (arith, below, h)) has
-  ready_of valid n (Mul x y d) h below leaf has = (placed_at x (omega (arith, below.0, h)) has.0, placed_at y (omega (arith, below.1, h)) has.1)
+  ready_of valid n (Leaf a) h below leaf has = (leaf, All-nil (Placed places))
+  ready_of valid n (Add x y d) h below leaf has = (leaf, both_placed n x y h below has)
+  ready_of valid n (Sub x y d) h below leaf has = (leaf, both_placed n x y h below has)
+  ready_of valid n (Neg x d) h below leaf has = (leaf, of_one (Placed places) x (placed_at x (let low = below 0 x (omega arith) in omega (arith, low, h)) has))
+  ready_of valid n (Mul x y d) h below leaf has = (leaf, both_placed n x y h below has)
 
   value_of : (l : Leaves A F) (node : SymbolicExpr A) (d : Data) → stated_degree l node ≡ degree kind.term (node_tree seen f node) → IsNodeValue kind seen places node d → IsWrittenNode kind done d (node_tree seen f node)
   value_of l (Leaf a) d e h = h
@@ -80,10 +88,10 @@ module _ {U A S F : Type 0} (reads : U → Leaves A F) (seen : U → A → S) (z
 
   over_node : (node : SymbolicExpr A) → NodeFits (reads p.base) p.nodes node → option_map (map_leaves (seen p.base)) (unfold_node (tree_of p.nodes) node) ≡ Some (node_tree (seen p.base) tree node)
   over_node (Leaf a) h = refl
-  over_node (Add x y d) h = over_two add_tree add_tree (λ t u. refl) x y h.0 h.1
-  over_node (Sub x y d) h = over_two sub_tree sub_tree (λ t u. refl) x y h.0 h.1
-  over_node (Neg x d) h = map_leaves-negative (seen p.base) (tree_at p x) ∙ ap (option_map neg_tree) (is_there x h.0)
-  over_node (Mul x y d) h = over_two mul_tree mul_tree (λ t u. refl) x y h.0 h.1
+  over_node (Add x y d) h = over_two add_tree add_tree (λ t u. refl) x y (h.below 0 x (omega arith)) (h.below 1 y (omega arith))
+  over_node (Sub x y d) h = over_two sub_tree sub_tree (λ t u. refl) x y (h.below 0 x (omega arith)) (h.below 1 y (omega arith))
+  over_node (Neg x d) h = map_leaves-negative (seen p.base) (tree_at p x) ∙ ap (option_map neg_tree) (is_there x (h.below 0 x (omega arith)))
+  over_node (Mul x y d) h = over_two mul_tree mul_tree (λ t u. refl) x y (h.below 0 x (omega arith)) (h.below 1 y (omega arith))
 
   -- the tree of a number is that of its node
   pub node_there : (n : ℕ) (node : SymbolicExpr A) → IsNode (reads p.base) p.nodes n node → seen_at seen p n ≡ Some (node_tree (seen p.base) tree node)
@@ -168,7 +176,7 @@ module _ {U A S F : Type 0} (reads : U → Leaves A F) (grows : U → U → Type
       next_ready steps rest s node e b is g =
           let h : At (rest ++ (s.0, true) ∷ []) = write_at rest s.0 s.1 b (subst At e g) in
           ready_of kind (seen p.base) trees size h.done places h.table (reads p.base).valid s.0 node (within_last size rest (s.0, true) h.within) is.below
-          (λ a q. subst (λ (m : SymbolicExpr A). NodeFits (reads p.base) p.nodes m) q is.fits)
+          is.fits.valid
           (subst (HasOperands h.done) (node_seen reads seen z p w s.0 node is) (is_next kind trees size root rest places ds s.0 h).0)
 
       node_written : (steps : List (ℕ × Bool)) (n : ℕ) (node : SymbolicExpr A) (d : Data) → IsNode (reads p.base) p.nodes n node → (h : At steps) → IsNodeValue kind (seen p.base) places node d → IsWrittenNode kind h.done d (trees n)

@@ -1,7 +1,9 @@
 -- Writing a list: the places of written nodes, and the remaining steps.
-use Rattle.std.specs.Prelude.{◌≡◌, ℕ, ◌<◌, ◌^◌, Bool, true, false, List, [], ◌∷◌, Option, Some, codes}
+use Rattle.std.specs.Prelude.{◌≡◌, ℕ, ◌<◌, ◌^◌, Bool, true, false, List, ◌∷◌, map, reverse, Option, Some, codes}
 use Rattle.std.specs.List.{slice_get}
 use Rattle.serde_json.specs.Data.{Data}
+use Rattle.air_symbolic.specs.Nodes.{operands, IsValidNode}
+use Rattle.air_symbolic.specs.Reach.{EachOperand}
 use Rattle.air_symbolic.specs.declared.pools.expr.SymbolicExpr.{SymbolicExpr}
 use Rattle.air_symbolic.specs.declared.pools.expr.SymbolicExpr.TheVariants.{Leaf, Add, Sub, Neg, Mul}
 use Rattle.air_json.specs.Spelling.{case_data, IsCase}
@@ -16,11 +18,7 @@ Placed places x = (i : ℕ) × (slice_get places x ≡ Some (Some i))
 
 -- each operand of the node has a place; a leaf is valid
 abbrev pub IsWritable : {A : Type 0} → (A → Type 0) → List (Option ℕ) → SymbolicExpr A → Type 0
-IsWritable valid places (Leaf a) = valid a
-IsWritable valid places (Add x y d) = Placed places x × Placed places y
-IsWritable valid places (Sub x y d) = Placed places x × Placed places y
-IsWritable valid places (Neg x d) = Placed places x
-IsWritable valid places (Mul x y d) = Placed places x × Placed places y
+IsWritable valid places n = IsValidNode valid n × EachOperand (Placed places) n
 
 -- the case of this name with the stated degree and the operands' places
 abbrev pub NamesTwo : List ℕ → List (Option ℕ) → ℕ → ℕ → ℕ → Data → Type 0
@@ -42,8 +40,4 @@ IsNodeValue kind seen places (Mul x y d) v = NamesTwo (codes "Mul") places x y d
 -- A step visits an expression (false) or writes it (true). Visiting an expression adds steps that visit its operands,
 -- left before right, and then write it. The next step is the last of the list.
 abbrev pub steps_of : {A : Type 0} → ℕ → SymbolicExpr A → List (ℕ × Bool)
-steps_of n (Leaf a) = (n, true) ∷ []
-steps_of n (Add x y d) = (n, true) ∷ (y, false) ∷ (x, false) ∷ []
-steps_of n (Sub x y d) = (n, true) ∷ (y, false) ∷ (x, false) ∷ []
-steps_of n (Neg x d) = (n, true) ∷ (x, false) ∷ []
-steps_of n (Mul x y d) = (n, true) ∷ (y, false) ∷ (x, false) ∷ []
+steps_of n node = (n, true) ∷ map (λ x. (x, false)) (reverse (operands node))

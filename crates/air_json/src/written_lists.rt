@@ -1,5 +1,5 @@
 //! Writing lists of nodes.
-ghost use Rattle.std.specs.Prelude.{◌≡◌, ◌<◌, ◌+◌, [], ◌∷◌, ◌++◌, true, false, map, replicate, IfOk, IfErr};
+ghost use Rattle.std.specs.Prelude.{◌≡◌, ◌<◌, ◌+◌, ◌++◌, map, replicate, IfOk, IfErr};
 ghost use Rattle.serde_json.specs.Data.{array};
 ghost use Rattle.serde_json.specs.View.{view, items_of};
 ghost use Rattle.air_symbolic.specs.Pools.{IsPool, FitsBase, size};
@@ -30,36 +30,6 @@ fn numbers_to<A: WireLeaf>(pool: &ExprPool<A>, id: ExprId<A>) -> usize
     pool.len().min(id.number() + 1)
 }
 
-fn push_one<A: WireLeaf>(
-    steps: &mut Vec<(ExprId<A>, bool)>,
-    id: ExprId<A>,
-    x: ExprId<A>,
-) -> Result<(), FlatError>
-    ensures pushed { IfOk result (λ _. steps.new.items ≡ steps.old.items
-        ++ (id, true) ∷ (x, false) ∷ []) }
-    ensures refused { IfErr result (λ e. e ≡ FlatError.Memory) }
-{
-    steps.push((id, true))?;
-    steps.push((x, false))?;
-    Ok(())
-}
-
-fn push_two<A: WireLeaf>(
-    steps: &mut Vec<(ExprId<A>, bool)>,
-    id: ExprId<A>,
-    x: ExprId<A>,
-    y: ExprId<A>,
-) -> Result<(), FlatError>
-    ensures pushed { IfOk result (λ _. steps.new.items ≡ steps.old.items
-        ++ (id, true) ∷ (y, false) ∷ (x, false) ∷ []) }
-    ensures refused { IfErr result (λ e. e ≡ FlatError.Memory) }
-{
-    steps.push((id, true))?;
-    steps.push((y, false))?;
-    steps.push((x, false))?;
-    Ok(())
-}
-
 // Pushes the steps that visit the operands, left before right, and then write the node.
 fn push_steps<A: WireLeaf>(
     steps: &mut Vec<(ExprId<A>, bool)>,
@@ -70,13 +40,14 @@ fn push_steps<A: WireLeaf>(
         ++ steps_of id node.now) }
     ensures refused { IfErr result (λ e. e ≡ FlatError.Memory) }
 {
-    match *node {
-        SymbolicExpr::Leaf(_) => Ok(steps.push((id, true))?),
-        SymbolicExpr::Add { x, y, .. } => push_two(steps, id, x, y),
-        SymbolicExpr::Sub { x, y, .. } => push_two(steps, id, x, y),
-        SymbolicExpr::Neg { x, .. } => push_one(steps, id, x),
-        SymbolicExpr::Mul { x, y, .. } => push_two(steps, id, x, y),
+    steps.push((id, true))?;
+    if let [left, rest @ ..] = node.operands().as_slice() {
+        if let [right, ..] = rest {
+            steps.push((*right, false))?;
+        }
+        steps.push((*left, false))?;
     }
+    Ok(())
 }
 
 // The nodes of the list. A node is written once: when it has no place yet and its operands have theirs. The remaining

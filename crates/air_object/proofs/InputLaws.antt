@@ -1,23 +1,25 @@
 -- Whole objects: the members' reader answers exactly what they spell, or their first fault.
-use Rattle.std.proofs.Common.{ℕ, ◌≡◌, ◌≢◌, refl, sym, ap, subst, ◌∙◌, inl, inr}
+use Rattle.std.proofs.Common.{ℕ, ◌≡◌, ◌≢◌, Result, Ok, Vec, Global, refl, sym, ap, subst, ◌∙◌, inl, inr}
 use Rattle.serde_json.specs.Data.{Data}
 use Rattle.air_core.specs.declared.errors.AirError.{AirError}
 use Rattle.air_core.specs.declared.errors.AirError.TheVariants as air
 use Rattle.air_field.specs.Modular.{Modular}
-use Rattle.air_field.specs.Matrix.{matrix_of}
-use Rattle.air_field.specs.declared.errors.MatrixError.{MatrixError}
-use Rattle.air_core.specs.Errors.{matrix_air_error}
 use Rattle.air_json.specs.Faults.{air_fault}
 use Rattle.air_json.specs.laws.Readings.{done_is, not_done}
-use Rattle.air_json.specs.Results.{Fails}
+use Rattle.air_json.specs.Results.{Fails, Gives}
 use Rattle.air_json.specs.declared.errors.FlatError.{FlatError}
 use Rattle.air_json.specs.declared.errors.FlatError.TheVariants as faults
-use Rattle.air_object.specs.Input.{table_of, HasMatrixFault, SpellsInput, HasInputFault}
+use Rattle.air_object.specs.Input.{SpellsInput, HasInputFault}
 use Rattle.air_object.specs.declared.input.FlatInput.{FlatInput}
-use Rattle.air_object.specs.Members.{MemberValues, members}
-use Rattle.air_object.specs.Readers.{members_read}
+use Rattle.air_object.specs.Members.{Made, members}
+use Rattle.air_object.specs.Parts.{ArePartsOf, given_elements, given_by}
+use Rattle.air_object.specs.Readers.{members_read, members_with}
+use Rattle.air_object.specs.Seen.{seen_made}
+use Rattle.air_object.specs.declared.constraints.Constraints.{Constraints}
+use Rattle.air_field.specs.declared.errors.MatrixError.{MatrixError}
 use Rattle.air_json.specs.laws.Readings.{err_is}
 use Rattle.air_object.specs.laws.Members.{members_agree}
+use Rattle.air_object.proofs.PartLemmas.{parts_give}
 
 module _ {F : Type 0} {order : ℕ} (modular : Modular F order) where
   pub member_fault : (d : Data) (f : FlatError) (e : AirError) → e ≡ air_fault f → Fails f (members_read modular d) → e ≢ air.Memory → HasInputFault modular d e
@@ -29,36 +31,29 @@ module _ {F : Type 0} {order : ℕ} (modular : Modular F order) where
   member_fault d (faults.WrongDegree place s k) e is h n = inl (faults.WrongDegree place s k, (members_agree modular).fault d _ h, is)
   member_fault d (faults.NotCanonical place) e is h n = inl (faults.NotCanonical place, (members_agree modular).fault d _ h, is)
 
+  -- what is made of the parts of a value is what the value spells
+  pub parts_spell : (d rest : Data) (es : Result (Vec F Global) FlatError) (c : Constraints F) → ArePartsOf modular d rest es c → (one other : Result (FlatInput F) MatrixError)
+      → Gives seen_made (Ok one) (members_with modular (given_elements es) (given_by c) rest) → one ≡ other → (members modular).spells d (seen_made other)
+  parts_spell d rest es c parts one other h same =
+      subst (λ r. (members modular).spells d (seen_made r)) same ((members_agree modular).found d (seen_made one) (parts_give modular d rest es c parts seen_made (Ok one) h))
+
   -- ---- an object is read in one way
 
-  pub one_value : (d : Data) (m n : MemberValues F) → (members modular).spells d m → (members modular).spells d n → m ≡ n
+  pub one_value : (d : Data) (m n : Made F) → (members modular).spells d m → (members modular).spells d n → m ≡ n
   one_value d m n h k = done_is (λ v. m ≡ v) m n (sym ((members_agree modular).again d m h) ∙ (members_agree modular).again d n k) refl
 
-  not_both : (d : Data) (m : MemberValues F) (f : FlatError) → (members modular).spells d m → (members modular).fault d f → ⊥
+  not_both : (d : Data) (m : Made F) (f : FlatError) → (members modular).spells d m → (members modular).fault d f → ⊥
   not_both d m f h k = not_done (λ _. ⊥) f m (sym ((members_agree modular).refused d f k) ∙ (members_agree modular).again d m h)
 
   one_member_fault : (d : Data) (f g : FlatError) → (members modular).fault d f → (members modular).fault d g → f ≡ g
   one_member_fault d f g h k = err_is f g (sym ((members_agree modular).refused d f h) ∙ (members_agree modular).refused d g k)
 
-  no_matrix_fault : (d : Data) (v : MemberValues F) (f : MatrixError) (input : FlatInput F) → SpellsInput modular d input → (members modular).spells d v → HasMatrixFault v f → ⊥
-  no_matrix_fault d v f input s h (inl k) = absurd (cc (sym s.main ∙ sym (ap (λ (u : MemberValues F). matrix_of u.0.0 u.0.1.0) (one_value d v _ h s.members)) ∙ k))
-  no_matrix_fault d v f input s h (inr k) = absurd (cc (sym s.preprocessed ∙ sym (ap (λ (u : MemberValues F). table_of u.0.1.1.0) (one_value d v _ h s.members)) ∙ k.2))
-
   pub no_fault : (d : Data) (input : FlatInput F) (e : AirError) → SpellsInput modular d input → HasInputFault modular d e → ⊥
-  no_fault d input e s (inl h) = not_both d _ h.0 s.members h.1
-  no_fault d input e s (inr h) = no_matrix_fault d h.0 h.2 input s h.1 h.3
-
-  one_matrix_fault : (v : MemberValues F) (f g : MatrixError) → HasMatrixFault v f → HasMatrixFault v g → f ≡ g
-  one_matrix_fault m f g (inl h) (inl k) = cc (sym h ∙ k)
-  one_matrix_fault m f g (inl h) (inr k) = absurd (cc (sym h ∙ k.1))
-  one_matrix_fault m f g (inr h) (inl k) = absurd (cc (sym k ∙ h.1))
-  one_matrix_fault m f g (inr h) (inr k) = cc (sym h.2 ∙ k.2)
+  no_fault d input e s (inl h) = not_both d _ h.0 s h.1
+  no_fault d input e s (inr h) = absurd (cc (one_value d _ _ s h.1))
 
   pub one_fault : (d : Data) (e f : AirError) → HasInputFault modular d e → HasInputFault modular d f → e ≡ f
   one_fault d e f (inl h) (inl k) = h.2 ∙ ap air_fault (one_member_fault d h.0 k.0 h.1 k.1) ∙ sym k.2
-  one_fault d e f (inl h) (inr k) = absurd (not_both d k.0 h.0 k.1 h.1)
-  one_fault d e f (inr h) (inl k) = absurd (not_both d h.0 k.0 h.1 k.1)
-  one_fault d e f (inr h) (inr k) =
-      let same = one_value d h.0 k.0 h.1 k.1 in
-      let fault = one_matrix_fault k.0 h.2 k.2 (subst (λ (v : MemberValues F). HasMatrixFault v h.2) same h.3) k.3 in
-      h.4 ∙ ap matrix_air_error fault ∙ sym k.4
+  one_fault d e f (inl h) (inr k) = absurd (not_both d _ h.0 k.1 h.1)
+  one_fault d e f (inr h) (inl k) = absurd (not_both d _ k.0 h.1 k.1)
+  one_fault d e f (inr h) (inr k) = cc (one_value d _ _ h.1 k.1, h.2, k.2)

@@ -23,9 +23,9 @@ use Rattle.air_json.specs.laws.Lists.{fails_is, fails_if}
 use Rattle.air_json.specs.Results.{◌>>=◌, Fails, Gives}
 use Rattle.air_json.specs.declared.errors.FlatError.{FlatError}
 use Rattle.air_json.specs.declared.errors.FlatError.TheVariants as faults
-use Rattle.air_object.specs.Members.{MemberValues, LabelledTrees}
-use Rattle.air_object.specs.Parts.{GivenElements, AreElements, GivenTrees, AreGiven, and_one, read_one_more, root_numbers, of_member, AreMembersOf, ArePartsOf, given_elements, given_by, labelled_with, members_with}
-use Rattle.air_object.specs.Readers.{Reader, each_from, elements, tree, trees, width_member, elements_member, table_member, constraints_member, periodic_member, boundary_member, cap_member, weight_member, labels_member, labelled_read, members_read}
+use Rattle.air_object.specs.Members.{Made, LabelledTrees}
+use Rattle.air_object.specs.Parts.{GivenElements, AreElements, GivenTrees, AreGiven, and_one, read_one_more, root_numbers, of_member, AreMembersOf, ArePartsOf, given_elements, given_by}
+use Rattle.air_object.specs.Readers.{Reader, each_from, elements, tree, trees, width_member, elements_member, table_member, constraints_member, periodic_member, boundary_member, cap_member, weight_member, labels_member, labelled_with, labelled_read, members_with, members_read}
 use Rattle.air_object.proofs.TokenLemmas.{data_before, one_more_data, item_read}
 use Rattle.air_object.proofs.Trees.{GrownTo, AllIn, all_in_push, trees_kept}
 use Rattle.air_object.specs.declared.constraints.Constraints.{Constraints}
@@ -220,7 +220,7 @@ module _ {F : Type 0} {order : ℕ} (modular : Modular F order) where
     width_memory k (Ok x) h = only_memory see r _ h
 
   -- if the trace and the constraints agree with the given ones, all members do
-  module _ {X : Type 0} (see : X → MemberValues F) (r : Result X FlatError) (rest : Data) where
+  module _ {X : Type 0} (see : X → Made F) (r : Result X FlatError) (rest : Data) where
     abbrev GivesWith : GivenElements F → GivenTrees F → Type 0
     GivesWith trace g = Gives see r (members_with modular trace g rest)
 
@@ -244,39 +244,21 @@ module _ {F : Type 0} {order : ℕ} (modular : Modular F order) where
     same : (name : List ℕ) → (length name ≡ 4 → ⊥) → (length name ≡ 11 → ⊥) → get name d ≡ get name rest
     same name first other = parts.others name (λ e. first (ap length e)) (λ e. other (ap length e))
 
-    width_same : (name : List ℕ) → (length name ≡ 4 → ⊥) → (length name ≡ 11 → ⊥) → width_member name d ≡ width_member name rest
-    unfolding width_member
-    width_same name first other = rw (same name first other) refl
-
-    elements_same : (name : List ℕ) → (length name ≡ 4 → ⊥) → (length name ≡ 11 → ⊥) → elements_member modular name d ≡ elements_member modular name rest
-    unfolding elements_member
-    elements_same name first other = rw (same name first other) refl
-
-    table_same : table_member modular d ≡ table_member modular rest
-    unfolding table_member
-    table_same = rw (same (codes "preprocessed_width") (λ e. absurd cc) (λ e. absurd cc), same (codes "preprocessed") (λ e. absurd cc) (λ e. absurd cc), width_same (codes "preprocessed_width") (λ e. absurd cc) (λ e. absurd cc), elements_same (codes "preprocessed") (λ e. absurd cc) (λ e. absurd cc)) refl
-
-    periodic_same : periodic_member modular d ≡ periodic_member modular rest
-    unfolding periodic_member
-    periodic_same = rw (same (codes "periodic") (λ e. absurd cc) (λ e. absurd cc)) refl
-
-    boundary_same : boundary_member d ≡ boundary_member rest
-    unfolding boundary_member
-    boundary_same = rw (same (codes "boundary") (λ e. absurd cc) (λ e. absurd cc)) refl
-
-    cap_same : cap_member d ≡ cap_member rest
-    unfolding cap_member
-    cap_same = rw (same (codes "cap") (λ e. absurd cc) (λ e. absurd cc)) refl
-
-    weight_same : weight_member d ≡ weight_member rest
-    unfolding weight_member
-    weight_same = rw (same (codes "transition_weight") (λ e. absurd cc) (λ e. absurd cc)) refl
-
     members_same : members_read modular d ≡ members_with modular (elements_member modular (codes "main") d) (constraints_member modular d) rest
-    unfolding members_read members_with labels_member
-    members_same = rw (width_same (codes "main_width") (λ e. absurd cc) (λ e. absurd cc), table_same, elements_same (codes "public_values") (λ e. absurd cc) (λ e. absurd cc), periodic_same, boundary_same, cap_same, weight_same, same (codes "labels") (λ e. absurd cc) (λ e. absurd cc)) refl
+    unfolding members_with width_member table_member elements_member periodic_member boundary_member cap_member weight_member labels_member
+    members_same = rw (
+      same (codes "main_width") (λ e. absurd cc) (λ e. absurd cc),
+      same (codes "preprocessed_width") (λ e. absurd cc) (λ e. absurd cc),
+      same (codes "preprocessed") (λ e. absurd cc) (λ e. absurd cc),
+      same (codes "public_values") (λ e. absurd cc) (λ e. absurd cc),
+      same (codes "periodic") (λ e. absurd cc) (λ e. absurd cc),
+      same (codes "boundary") (λ e. absurd cc) (λ e. absurd cc),
+      same (codes "cap") (λ e. absurd cc) (λ e. absurd cc),
+      same (codes "transition_weight") (λ e. absurd cc) (λ e. absurd cc),
+      same (codes "labels") (λ e. absurd cc) (λ e. absurd cc),
+    ) refl
 
-    pub parts_give : {X : Type 0} (see : X → MemberValues F) (r : Result X FlatError) → Gives see r (members_with modular (given_elements es) (given_by c) rest) → Gives see r (members_read modular d)
+    pub parts_give : {X : Type 0} (see : X → Made F) (r : Result X FlatError) → Gives see r (members_with modular (given_elements es) (given_by c) rest) → Gives see r (members_read modular d)
     parts_give see r h =
         subst (λ v. Gives see r v) (sym members_same)
         (both_give see r rest (elements_member modular (codes "main") d) (constraints_member modular d) (λ v. v.items) (λ roots. map (tree_at c.pool) roots.items) es c.roots parts.main parts.constraints.read h)

@@ -1,7 +1,11 @@
 -- The members of the object, in the order in which they are read, and what they spell.
-use Rattle.std.specs.Prelude.{◌≡◌, ℕ, ◌≤◌, List, [], length, Option, Some, None, ◌⊎◌, codes}
+use Rattle.std.specs.Prelude.{◌≡◌, ℕ, ◌≤◌, List, [], length, Option, Some, None, Result, Ok, Err, ◌⊎◌, codes}
+use Rattle.std.specs.Result.{result_map_both}
 use Rattle.serde_json.specs.Data.{Data, null, string}
+use Rattle.air_field.specs.Grid.{Grid}
+use Rattle.air_field.specs.Matrix.{matrix_of}
 use Rattle.air_field.specs.Modular.{Modular}
+use Rattle.air_field.specs.declared.errors.MatrixError.{MatrixError}
 use Rattle.air_symbolic.specs.Trees.{Tree}
 use Rattle.air_symbolic.specs.declared.leaves.base_leaf.BaseLeaf.{BaseLeaf}
 use Rattle.air_core.specs.declared.boundary.BoundaryPublic.{BoundaryPublic}
@@ -11,7 +15,7 @@ use Rattle.air_json.specs.NodeLists.{IsList, HasFault}
 use Rattle.air_json.specs.Spelling.{IsWholeNumber}
 use Rattle.air_json.specs.declared.errors.FlatError.{FlatError}
 use Rattle.air_json.specs.declared.errors.FlatError.TheVariants as faults
-use Rattle.air_object.specs.Objects.{Grammar, by_form, list_of, at_most, needed_member, optional_member, then_member, both_members, both_or_none}
+use Rattle.air_object.specs.Objects.{◌>>=◌, Grammar, by_form, list_of, at_most, needed_member, optional_member, given, both_or_none}
 
 abbrev pub whole_number : Grammar ℕ
 whole_number = by_form (λ d n. IsWholeNumber n d)
@@ -50,37 +54,82 @@ labels n = optional_member (codes "labels") [] (at_most n (list_of label))
 abbrev pub TableValues : Type 0 → Type 0
 TableValues F = ℕ × List F
 
--- the width and values of the main trace, those of the preprocessed trace, the public values, the constraints, the periodic columns, the boundary values, the
--- cap, the weight of the transition selector
-abbrev pub OtherValues : Type 0 → Type 0
-OtherValues F = ℕ × (List F × (Option (TableValues F) × (List F × (List (Option (Tree (BaseLeaf F))) × (List (List F) × (List BoundaryPublic × (Option ℕ × ℕ)))))))
+-- the preprocessed trace with these values, if there is one
+abbrev pub table_of : {F : Type 0} → Option (TableValues F) → Result (Option (Grid F)) MatrixError
+table_of None = Ok None
+table_of (Some t) = result_map_both (λ table. Some table) (λ f. f) (matrix_of t.0 t.1)
 
--- all of these, and the constraints' labels
-abbrev pub MemberValues : Type 0 → Type 0
-MemberValues F = OtherValues F × List (List ℕ)
+-- both matrices, or the error of the first that isn't one
+abbrev pub both_matrices : {F : Type 0} → Result (Grid F) MatrixError → Result (Option (Grid F)) MatrixError → Result (Grid F × Option (Grid F)) MatrixError
+both_matrices (Err f) table = Err f
+both_matrices (Ok main) (Err f) = Err f
+both_matrices (Ok main) (Ok table) = Ok (main, table)
 
--- the number of constraints
-abbrev pub constraint_count : {F : Type 0} → OtherValues F → ℕ
-constraint_count v = length v.1.1.1.1.0
+-- what an input has, each constraint as its tree
+pub record MemberValues (F : Type 0) : Type 0 where
+  pub width : ℕ
+  pub main : Grid F
+  pub preprocessed : Option (Grid F)
+  pub num_public_values : ℕ
+  pub public_values : List F
+  pub constraints : List (Option (Tree (BaseLeaf F)))
+  pub periodic : List (List F)
+  pub boundary : List BoundaryPublic
+  pub cap : Option ℕ
+  pub weight : ℕ
+  pub labels : List (List ℕ)
 
-abbrev pub other_members : {F : Type 0} {p : ℕ} → Modular F p → Grammar (OtherValues F)
-other_members m =
-    both_members (needed_member (codes "main_width") whole_number)
-    (both_members (needed_member (codes "main") (list_of (element m)))
-    (both_members (both_or_none (codes "preprocessed_width") whole_number (codes "preprocessed") (list_of (element m)))
-    (both_members (needed_member (codes "public_values") (list_of (element m)))
-    (both_members (needed_member (codes "constraints") (list_of (constraint m)))
-    (both_members (optional_member (codes "periodic") [] (list_of (list_of (element m))))
-    (both_members (optional_member (codes "boundary") [] (list_of boundary_cell))
-    (both_members (optional_member (codes "cap") None cap)
-    (optional_member (codes "transition_weight") 0 whole_number))))))))
+-- what an object has or, if the values of a trace aren't whole rows, the error of the first such trace
+abbrev pub Made : Type 0 → Type 0
+Made F = Result (MemberValues F) MatrixError
 
-abbrev pub members : {F : Type 0} {p : ℕ} → Modular F p → Grammar (MemberValues F)
-members m = then_member (other_members m) (λ v. labels (constraint_count v))
+-- the input with these members, in the order in which they are read
+abbrev pub made : {F : Type 0} → ℕ → List F → Result (Option (Grid F)) MatrixError → List F → List (Option (Tree (BaseLeaf F))) → List (List F) → List BoundaryPublic → Option ℕ → ℕ → List (List ℕ) → Made F
+made width main preprocessed public_values constraints periodic boundary cap weight labels =
+    result_map_both (λ matrices. record {
+      width = width;
+      main = matrices.0;
+      preprocessed = matrices.1;
+      num_public_values = length public_values;
+      public_values = public_values;
+      constraints = constraints;
+      periodic = periodic;
+      boundary = boundary;
+      cap = cap;
+      weight = weight;
+      labels = labels;
+    }) (λ f. f) (both_matrices (matrix_of width main) preprocessed)
+
+-- the preprocessed trace: its width and its values row after row, both or neither
+abbrev pub table : {F : Type 0} {p : ℕ} → Modular F p → Grammar (Result (Option (Grid F)) MatrixError)
+table m = do
+  rows ← both_or_none (codes "preprocessed_width") whole_number (codes "preprocessed") (list_of (element m))
+  given (table_of rows)
+
+abbrev pub constraints : {F : Type 0} {p : ℕ} → Modular F p → Grammar (List (Option (Tree (BaseLeaf F))))
+constraints m = needed_member (codes "constraints") (list_of (constraint m))
+
+-- the whole object
+abbrev pub members : {F : Type 0} {p : ℕ} → Modular F p → Grammar (Made F)
+members m = do
+  width ← needed_member (codes "main_width") whole_number
+  main ← needed_member (codes "main") (list_of (element m))
+  preprocessed ← table m
+  public_values ← needed_member (codes "public_values") (list_of (element m))
+  trees ← constraints m
+  periodic ← optional_member (codes "periodic") [] (list_of (list_of (element m)))
+  boundary ← optional_member (codes "boundary") [] (list_of boundary_cell)
+  most ← optional_member (codes "cap") None cap
+  weight ← optional_member (codes "transition_weight") 0 whole_number
+  texts ← labels (length trees)
+  given (made width main preprocessed public_values trees periodic boundary most weight texts)
 
 -- the constraints and their labels, without the other members
 abbrev pub LabelledTrees : Type 0 → Type 0
 LabelledTrees F = List (Option (Tree (BaseLeaf F))) × List (List ℕ)
 
 abbrev pub labelled_constraints : {F : Type 0} {p : ℕ} → Modular F p → Grammar (LabelledTrees F)
-labelled_constraints m = then_member (needed_member (codes "constraints") (list_of (constraint m))) (λ trees. labels (length trees))
+labelled_constraints m = do
+  trees ← constraints m
+  texts ← labels (length trees)
+  given (trees, texts)

@@ -56,16 +56,27 @@ optional_member name absent g = record {
   fault = λ d f. HasField name (λ c. g.fault c f) d;
 }
 
--- two members, where the value of the first determines the grammar of the second; a fault of the first comes first
-abbrev pub then_member : {X Y : Type 0} → Grammar X → (X → Grammar Y) → Grammar (X × Y)
+-- what a further grammar, which the value of the first determines, spells in the same data; a fault of the first comes first
+abbrev pub then_member : {X Y : Type 0} → Grammar X → (X → Grammar Y) → Grammar Y
 then_member {X} g h = record {
-  spells = λ d p. g.spells d p.0 × (h p.0).spells d p.1;
+  spells = λ d y. (x : X) × g.spells d x × (h x).spells d y;
   fault = λ d f. g.fault d f ⊎ ((x : X) × g.spells d x × (h x).fault d f);
 }
 
+infixl 10 ◌>>=◌
+abbrev pub ◌>>=◌ : {X Y : Type 0} → Grammar X → (X → Grammar Y) → Grammar Y
+g >>= h = then_member g h
+
+-- this value, whatever the data
+abbrev pub given : {X : Type 0} → X → Grammar X
+given x = record { spells = λ d y. y ≡ x; fault = λ d f. ⊥ }
+
 -- two members; a fault of the first comes first
 abbrev pub both_members : {X Y : Type 0} → Grammar X → Grammar Y → Grammar (X × Y)
-both_members g h = then_member g (λ _. h)
+both_members g h = do
+  x ← g
+  y ← h
+  given (x, y)
 
 -- the object has a member with one of these names
 abbrev pub HasEither : List ℕ → List ℕ → Data → Type 0

@@ -11,8 +11,7 @@ use Rattle.air_symbolic.specs.Trees.{Tree}
 use Rattle.air_symbolic.specs.declared.leaves.base_leaf.BaseLeaf.{BaseLeaf}
 use Rattle.air_json.specs.Results.{◌>>=◌, Gives}
 use Rattle.air_json.specs.declared.errors.FlatError.{FlatError}
-use Rattle.air_object.specs.Members.{MemberValues, LabelledTrees}
-use Rattle.air_object.specs.Readers.{Reader, or_wrong_form, elements, trees, width_member, elements_member, table_member, constraints_member, periodic_member, boundary_member, cap_member, weight_member, labels_member}
+use Rattle.air_object.specs.Readers.{Reader, or_wrong_form, elements, trees, elements_member, constraints_member}
 use Rattle.air_object.specs.declared.constraints.Constraints.{Constraints}
 
 -- the elements of the trace, or the first fault
@@ -65,27 +64,10 @@ pub record ArePartsOf {F : Type 0} {p : ℕ} (m : Modular F p) (d rest : Data) (
   pub main : AreElements (elements_member m (codes "main") d) es
   pub constraints : AreGiven (constraints_member m d) c
 
--- ---- the members, given the trace and the constraints
+-- ---- the trace and the constraints, as they are given to a reader of the members
 
 abbrev pub given_elements : {F : Type 0} → Result (Vec F Global) FlatError → GivenElements F
 given_elements es = result_map_both (λ v. v.items) (λ f. f) es
 
 abbrev pub given_by : {F : Type 0} → Constraints F → GivenTrees F
 given_by c = result_map_both (λ roots. map (tree_at c.pool) roots.items) (λ f. f) c.roots
-
-abbrev pub labelled_with : {F : Type 0} → GivenTrees F → Reader (LabelledTrees F)
-labelled_with given d = given >>= λ trees. labels_member (length trees) d >>= λ labels. Ok (trees, labels)
-
-unfoldable pub members_with : {F : Type 0} {p : ℕ} → Modular F p → GivenElements F → GivenTrees F → Reader (MemberValues F)
-members_with m trace given d = do
-  width ← width_member (codes "main_width") d
-  main ← trace
-  table ← table_member m d
-  public_values ← elements_member m (codes "public_values") d
-  constraints ← given
-  periodic ← periodic_member m d
-  boundary ← boundary_member d
-  cap ← cap_member d
-  weight ← weight_member d
-  labels ← labels_member (length constraints) d
-  Ok ((width, (main, (table, (public_values, (constraints, (periodic, (boundary, (cap, weight)))))))), labels)

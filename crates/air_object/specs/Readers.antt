@@ -2,7 +2,9 @@
 use Rattle.std.specs.Prelude.{ℕ, List, [], ◌∷◌, ◌++◌, length, nat_lt, ◌||◌, Option, Some, None, Result, Ok, Err, option_map, codes, if◌then◌else◌, is_some, ok_or}
 use Rattle.serde_json.specs.Data.{Data, Items, no_items, item}
 use Rattle.serde_json.specs.Find.{get, as_array, as_null, as_str}
+use Rattle.air_field.specs.Grid.{Grid}
 use Rattle.air_field.specs.Modular.{Modular}
+use Rattle.air_field.specs.declared.errors.MatrixError.{MatrixError}
 use Rattle.air_symbolic.specs.Trees.{Tree}
 use Rattle.air_symbolic.specs.declared.leaves.base_leaf.BaseLeaf.{BaseLeaf}
 use Rattle.air_core.specs.declared.boundary.BoundaryPublic.{BoundaryPublic}
@@ -13,7 +15,7 @@ use Rattle.air_json.specs.Parts.{as_whole_number}
 use Rattle.air_json.specs.Results.{◌>>=◌}
 use Rattle.air_json.specs.declared.errors.FlatError.{FlatError}
 use Rattle.air_json.specs.declared.errors.FlatError.TheVariants as faults
-use Rattle.air_object.specs.Members.{TableValues, MemberValues, LabelledTrees}
+use Rattle.air_object.specs.Members.{table_of, Made, made, LabelledTrees}
 
 abbrev pub Reader : Type 0 → Type 0
 Reader X = Data → Result X FlatError
@@ -81,13 +83,9 @@ or_absent absent read (Some d) = read d
 abbrev pub optional_read : {X : Type 0} → List ℕ → X → Reader X → Reader X
 optional_read name absent read d = or_absent absent read (get name d)
 
--- two readers in turn, where the result of the first determines the second
-abbrev pub then_read : {X Y : Type 0} → Reader X → (X → Reader Y) → Reader (X × Y)
-then_read read next d = read d >>= λ x. next x d >>= λ y. Ok (x, y)
-
 -- two readers in turn
 abbrev pub both_read : {X Y : Type 0} → Reader X → Reader Y → Reader (X × Y)
-both_read read next d = then_read read (λ _. next) d
+both_read read next d = read d >>= λ x. next d >>= λ y. Ok (x, y)
 
 abbrev pub if_either : {X : Type 0} → List ℕ → List ℕ → Reader X → Reader (Option X)
 if_either one other read d =
@@ -99,9 +97,9 @@ width_member name d = needed_read name (λ c. or_wrong_form (as_whole_number c))
 unfoldable pub elements_member : {F : Type 0} {p : ℕ} → Modular F p → List ℕ → Reader (List F)
 elements_member m name d = needed_read name (elements m) d
 
-unfoldable pub table_member : {F : Type 0} {p : ℕ} → Modular F p → Reader (Option (TableValues F))
+unfoldable pub table_member : {F : Type 0} {p : ℕ} → Modular F p → Reader (Result (Option (Grid F)) MatrixError)
 table_member m d =
-    if_either (codes "preprocessed_width") (codes "preprocessed") (both_read (width_member (codes "preprocessed_width")) (elements_member m (codes "preprocessed"))) d
+    if_either (codes "preprocessed_width") (codes "preprocessed") (both_read (width_member (codes "preprocessed_width")) (elements_member m (codes "preprocessed"))) d >>= λ rows. Ok (table_of rows)
 
 unfoldable pub constraints_member : {F : Type 0} {p : ℕ} → Modular F p → Reader (List (Option (Tree (BaseLeaf F))))
 constraints_member m d = needed_read (codes "constraints") (trees m) d
@@ -122,20 +120,30 @@ weight_member d = optional_read (codes "transition_weight") 0 (λ c. or_wrong_fo
 unfoldable pub labels_member : ℕ → Reader (List (List ℕ))
 labels_member n d = optional_read (codes "labels") [] (labels n) d
 
--- the constraints and their labels, without the other members
-abbrev pub labelled_read : {F : Type 0} {p : ℕ} → Modular F p → Reader (LabelledTrees F)
-labelled_read m = then_read (constraints_member m) (λ trees. labels_member (length trees))
+-- the constraints, which are given, and their labels
+abbrev pub labelled_with : {F : Type 0} → Result (List (Option (Tree (BaseLeaf F)))) FlatError → Reader (LabelledTrees F)
+labelled_with given d = do
+  trees ← given
+  texts ← labels_member (length trees) d
+  Ok (trees, texts)
 
-unfoldable pub members_read : {F : Type 0} {p : ℕ} → Modular F p → Reader (MemberValues F)
-members_read m d = do
+abbrev pub labelled_read : {F : Type 0} {p : ℕ} → Modular F p → Reader (LabelledTrees F)
+labelled_read m d = labelled_with (constraints_member m d) d
+
+-- the whole object, where the trace and the constraints are given
+unfoldable pub members_with : {F : Type 0} {p : ℕ} → Modular F p → Result (List F) FlatError → Result (List (Option (Tree (BaseLeaf F)))) FlatError → Reader (Made F)
+members_with m trace given d = do
   width ← width_member (codes "main_width") d
-  main ← elements_member m (codes "main") d
-  table ← table_member m d
+  main ← trace
+  preprocessed ← table_member m d
   public_values ← elements_member m (codes "public_values") d
-  constraints ← constraints_member m d
+  trees ← given
   periodic ← periodic_member m d
   boundary ← boundary_member d
-  cap ← cap_member d
+  most ← cap_member d
   weight ← weight_member d
-  labels ← labels_member (length constraints) d
-  Ok ((width, (main, (table, (public_values, (constraints, (periodic, (boundary, (cap, weight)))))))), labels)
+  texts ← labels_member (length trees) d
+  Ok (made width main preprocessed public_values trees periodic boundary most weight texts)
+
+abbrev pub members_read : {F : Type 0} {p : ℕ} → Modular F p → Reader (Made F)
+members_read m d = members_with m (elements_member m (codes "main") d) (constraints_member m d) d

@@ -4,7 +4,8 @@ ghost use Rattle.serde_json.specs.View.{view};
 ghost use Rattle.air_symbolic.specs.BaseLeaves.{base_reads};
 ghost use Rattle.air_symbolic.specs.Pools.{IsPool, size};
 ghost use Rattle.air_json.specs.Results.{Gives};
-ghost use Rattle.air_object.specs.Parts.{InPool, given_by, labelled_with};
+ghost use Rattle.air_object.specs.Parts.{InPool, given_by};
+ghost use Rattle.air_object.specs.Readers.{labelled_with};
 ghost use Rattle.air_object.specs.Seen.{seen_labelled};
 
 use crate::constraints::{BasePool, Constraints, Roots};

@@ -2,7 +2,7 @@
 ghost use Rattle.std.specs.Prelude.{◌≡◌};
 ghost use Rattle.serde_json.specs.Data.{Data};
 ghost use Rattle.air_core.specs.declared.errors.AirError.{AirError};
-ghost use Rattle.air_object.specs.Members.{MemberValues, members};
+ghost use Rattle.air_object.specs.Members.{Made, members};
 ghost use Rattle.air_object.specs.Input.{SpellsInput, HasInputFault};
 ghost use Rattle.air_object.specs.declared.input.FlatInput.{FlatInput};
 
@@ -10,7 +10,7 @@ use air_field::PrimeField64;
 
 /// A value spells the members of at most one input, has at most one first fault, and never both.
 pub fn inputs_are_read_one_way<F: PrimeField64>()
-    ensures one_value { (d : Data) (m n : MemberValues F) →
+    ensures one_value { (d : Data) (m n : Made F) →
         (members F.residues).spells d m → (members F.residues).spells d n → m ≡ n }
     ensures no_fault { (d : Data) (input : FlatInput F) (e : AirError) →
         SpellsInput F.residues d input → HasInputFault F.residues d e → ⊥ }

@@ -17,7 +17,7 @@ mod text;
 pub use constraints::{BaseId, BasePool, Constraints, Roots};
 pub use elements::Elements;
 pub use field_name::{FieldName, field_of};
-pub use input::{FlatInput, flat_input_from, input_from};
+pub use input::{FlatInput, Trial, flat_input_from, input_from};
 pub use labelled::{Labelled, labelled_from};
 pub use parts::{Parts, parts_of};
 pub use text::TextFault;

@@ -1,46 +1,27 @@
 //! The members of the object, in the order in which they are read.
-ghost use Rattle.std.specs.Prelude.{◌≡◌, ◌<◌, map, All, IfOk, option_map, ok_or};
+ghost use Rattle.std.specs.Prelude.{◌≡◌, ◌<◌, map, All, Some, IfOk, ok_or};
 ghost use Rattle.serde_json.specs.Find.{get};
 ghost use Rattle.serde_json.specs.View.{view};
 ghost use Rattle.air_symbolic.specs.Pools.{size};
 ghost use Rattle.air_json.specs.Results.{Gives};
 ghost use Rattle.air_json.specs.declared.errors.FlatError.TheVariants.{Shape};
-ghost use Rattle.air_object.specs.Parts.{InPool, given_elements, given_by, members_with};
-ghost use Rattle.air_object.specs.Readers.{width_member, elements_member, table_member, periodic_member, boundary_member, cap_in, cap_member, weight_member};
-ghost use Rattle.air_object.specs.Seen.{seen_rows, seen_members};
+ghost use Rattle.air_object.specs.Members.{table_of, both_matrices};
+ghost use Rattle.air_object.specs.Parts.{InPool, given_elements, given_by};
+ghost use Rattle.air_object.specs.Readers.{width_member, elements_member, table_member, periodic_member, boundary_member, cap_in, cap_member, weight_member, members_with};
+ghost use Rattle.air_object.specs.Seen.{seen_made};
 
 use crate::cells::cells_from;
-use crate::constraints::{BasePool, Constraints, Roots};
+use crate::constraints::Constraints;
 use crate::elements::{Elements, columns_from, elements_from};
+use crate::input::{FlatInput, Trial};
+use crate::labelled::Labelled;
 use crate::labels::labels_at;
+use air_builder::Beside;
 use air_core::BoundaryPublic;
-use air_field::{Field, PrimeField64};
+use air_field::{Field, MatrixError, PrimeField64, RowMajorMatrix};
 use air_json::{FlatError, whole_number};
 use serde_json::Value;
 use std::alloc::Global;
-
-/// Values of whole rows, and their width.
-#[derive(Drop)]
-pub struct RowValues<F: Field> {
-    pub width: usize,
-    pub values: Vec<F>,
-}
-
-/// The values of the members, before the matrices are made.
-#[derive(Drop)]
-pub struct Members<F: Field> {
-    pub main_width: usize,
-    pub main: Vec<F>,
-    pub preprocessed: Option<RowValues<F>>,
-    pub public_values: Vec<F>,
-    pub pool: BasePool<F>,
-    pub roots: Roots<F>,
-    pub periodic: Vec<Vec<F>>,
-    pub cells: Vec<BoundaryPublic>,
-    pub cap: Option<usize>,
-    pub transition_weight: usize,
-    pub labels: Vec<String>,
-}
 
 fn needed_member<'a>(value: &'a Value, name: &str) -> Result<&'a Value, FlatError>
     ensures { Gives (λ v. view v.now) result (ok_or (get name.now (view value.now)) (Shape 0)) }
@@ -65,19 +46,30 @@ pub(crate) fn elements_at<F: PrimeField64>(alloc: Global, value: &Value, name: &
     elements_from(alloc, needed_member(value, name)?)
 }
 
+// The preprocessed trace of these values, or the error of values that aren't whole rows.
+fn table_of<F: PrimeField64>(
+    values: Vec<F>,
+    width: usize,
+) -> Result<Option<RowMajorMatrix<F>>, MatrixError>
+    ensures { result ≡ table_of (Some (width, values.items)) }
+{
+    Ok(Some(RowMajorMatrix::new(values, width)?))
+}
+
+// The preprocessed trace, if there is one, or the error of values that aren't whole rows.
 #[tactic(auto, unfolding(crate::specs::Readers::table_member))]
 fn table_from<F: PrimeField64>(
     alloc: Global,
     value: &Value,
-) -> Result<Option<RowValues<F>>, FlatError>
-    ensures { Gives (option_map seen_rows) result (table_member F.residues (view value.now)) }
+) -> Result<Result<Option<RowMajorMatrix<F>>, MatrixError>, FlatError>
+    ensures { Gives (λ r. r) result (table_member F.residues (view value.now)) }
 {
     if value.get("preprocessed_width").is_none() && value.get("preprocessed").is_none() {
-        return Ok(None);
+        return Ok(Ok(None));
     }
     let width = width_at(value, "preprocessed_width")?;
     let values = elements_at(alloc, value, "preprocessed")?;
-    Ok(Some(RowValues { width, values }))
+    Ok(table_of(values, width))
 }
 
 #[tactic(auto, unfolding(crate::specs::Readers::periodic_member))]
@@ -132,22 +124,33 @@ fn weight_from(value: &Value) -> Result<usize, FlatError>
     }
 }
 
-/// The members of the object, or the first fault. Its trace and its constraints are already read; the value doesn't
-/// need to hold them.
-#[tactic(auto, unfolding(crate::specs::Parts::members_with))]
-pub fn members_from<F: PrimeField64>(
+// Both matrices, or the error of the first that isn't one.
+fn both_matrices<F: Field>(
+    main: Result<RowMajorMatrix<F>, MatrixError>,
+    preprocessed: Result<Option<RowMajorMatrix<F>>, MatrixError>,
+) -> Result<(RowMajorMatrix<F>, Option<RowMajorMatrix<F>>), MatrixError>
+    ensures { result ≡ both_matrices main preprocessed }
+{
+    Ok((main?, preprocessed?))
+}
+
+/// The input that the members give; or the first fault of a member; or, if there is none, the error of the first matrix
+/// whose values aren't whole rows. The trace and the constraints are already read; the value doesn't need to hold them.
+#[tactic(auto, unfolding(crate::specs::Readers::members_with))]
+pub(crate) fn members_from<F: PrimeField64>(
     alloc: Global,
     value: &Value,
     main: Elements<F>,
     constraints: Constraints<F>,
-) -> Result<Members<F>, FlatError>
+) -> Result<Result<FlatInput<F>, MatrixError>, FlatError>
     requires { InPool constraints }
-    ensures roots { IfOk result (λ m. All (λ i. i < size m.pool) m.roots.items) }
-    ensures read { Gives seen_members result (members_with F.residues (given_elements main)
+    ensures roots { IfOk result (λ made. IfOk made (λ input.
+        All (λ i. i < size input.constraints.pool) input.constraints.roots.items)) }
+    ensures read { Gives seen_made result (members_with F.residues (given_elements main)
         (given_by constraints) (view value.now)) }
 {
-    let main_width = width_at(value, "main_width")?;
-    let main = main?;
+    let width = width_at(value, "main_width")?;
+    let main = RowMajorMatrix::new(main?, width);
     let preprocessed = table_from(alloc, value)?;
     let public_values = elements_at(alloc, value, "public_values")?;
     let Constraints { pool, roots } = constraints;
@@ -157,17 +160,28 @@ pub fn members_from<F: PrimeField64>(
     let cap = cap_from(value)?;
     let transition_weight = weight_from(value)?;
     let labels = labels_at(alloc, value, roots.len())?;
-    Ok(Members {
-        main_width,
-        main,
-        preprocessed,
-        public_values,
-        pool,
-        roots,
-        periodic,
-        cells,
-        cap,
-        transition_weight,
-        labels,
-    })
+    let (main, preprocessed) = match both_matrices(main, preprocessed) {
+        Ok(matrices) => matrices,
+        Err(ragged) => return Ok(Err(ragged)),
+    };
+    Ok(Ok(FlatInput {
+        constraints: Labelled {
+            pool,
+            roots,
+            labels,
+        },
+        beside: Beside {
+            width,
+            num_public_values: public_values.len(),
+            preprocessed,
+            periodic,
+            cells,
+        },
+        trial: Trial {
+            main,
+            public_values,
+            cap,
+            transition_weight,
+        },
+    }))
 }

@@ -36,10 +36,10 @@ Known-more r s ns marks k old new x places e h now i below m =
 -- the value of a node whose operands' values are known
 pub node_value-is : {F : Type 0} (r : CommRing F) (s : Leaf → F) (ns : List (SymbolicExpr (BaseLeaf F))) (marks : List (Option ℕ)) (k : ℕ) (values : List F) (n : SymbolicExpr (BaseLeaf F)) → Known r s ns marks k values → OperandsBelow k n → EachOperand (λ j. Marked marks j) n → node_value r s (λ i. get_or values i r.zero) n ≡ value (self_algebra r) s (node_term base_term (λ i. term_of base_term (tree_of ns i)) n)
 node_value-is r s ns marks k values (node.Leaf a) h b m = refl
-node_value-is r s ns marks k values (node.Add x y d) h b m = ap₂ r.add (h x b.0 m.0) (h y b.1 m.1)
-node_value-is r s ns marks k values (node.Sub x y d) h b m = ap₂ (minus r) (h x b.0 m.0) (h y b.1 m.1)
-node_value-is r s ns marks k values (node.Neg x d) h b m = ap r.neg (h x b m)
-node_value-is r s ns marks k values (node.Mul x y d) h b m = ap₂ r.mul (h x b.0 m.0) (h y b.1 m.1)
+node_value-is r s ns marks k values (node.Add x y d) h b m = ap₂ r.add (h x (b 0 x (omega arith)) (m 0 x (omega arith))) (h y (b 1 y (omega arith)) (m 1 y (omega arith)))
+node_value-is r s ns marks k values (node.Sub x y d) h b m = ap₂ (minus r) (h x (b 0 x (omega arith)) (m 0 x (omega arith))) (h y (b 1 y (omega arith)) (m 1 y (omega arith)))
+node_value-is r s ns marks k values (node.Neg x d) h b m = ap r.neg (h x (b 0 x (omega arith)) (m 0 x (omega arith)))
+node_value-is r s ns marks k values (node.Mul x y d) h b m = ap₂ r.mul (h x (b 0 x (omega arith)) (m 0 x (omega arith))) (h y (b 1 y (omega arith)) (m 1 y (omega arith)))
 
 -- one more expression is visited
 pub read-more : (test : ℕ → Bool) (n : ℕ) (old new : List ℕ) → old ≡ passing_below test n → new ≡ old ++ cond (test n) (n ∷ []) [] → new ≡ passing_below test (n + 1)

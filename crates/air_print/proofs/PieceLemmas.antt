@@ -83,10 +83,10 @@ module _ {F : Type 0} (k : ℕ) where
 
   node-below : (within : Binding) (n : SymbolicExpr (BaseLeaf F)) → OperandsBelow k n → All (IsPieceBelow k) (node_rest within n)
   node-below within (Leaf a) h = All-nil (IsPieceBelow k)
-  node-below within (Add x y d) h = pair-below (wraps_sum within) (Operand x Loose) Plus (Operand y Summand) h.0 tt h.1
-  node-below within (Sub x y d) h = pair-below (wraps_sum within) (Operand x Loose) Minus (Operand y Summand) h.0 tt h.1
-  node-below within (Neg x d) h = All-cons (IsPieceBelow k) (Operand x Negated) [] h (All-nil (IsPieceBelow k))
-  node-below within (Mul x y d) h = pair-below (wraps_product within) (Operand x Summand) Times (Operand y Factor) h.0 tt h.1
+  node-below within (Add x y d) h = pair-below (wraps_sum within) (Operand x Loose) Plus (Operand y Summand) (h 0 x (omega arith)) tt (h 1 y (omega arith))
+  node-below within (Sub x y d) h = pair-below (wraps_sum within) (Operand x Loose) Minus (Operand y Summand) (h 0 x (omega arith)) tt (h 1 y (omega arith))
+  node-below within (Neg x d) h = All-cons (IsPieceBelow k) (Operand x Negated) [] (h 0 x (omega arith)) (All-nil (IsPieceBelow k))
+  node-below within (Mul x y d) h = pair-below (wraps_product within) (Operand x Summand) Times (Operand y Factor) (h 0 x (omega arith)) tt (h 1 y (omega arith))
 
   -- the pieces that a node leaves refer to expressions below k
   pub left-below : (within : Binding) (n : SymbolicExpr (BaseLeaf F)) (rest : List (Piece F)) → OperandsBelow k n → All (IsPieceBelow k) rest → All (IsPieceBelow k) (rest ++ node_rest within n)

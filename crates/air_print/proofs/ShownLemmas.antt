@@ -10,11 +10,7 @@ use Rattle.air_print.specs.Infix.{Shown, nothing, sum, difference, negative, pro
 
 -- operands below j are below any greater bound
 pub below-more : {A : Type 0} (j k : ℕ) (n : SymbolicExpr A) → j ≤ k → OperandsBelow j n → OperandsBelow k n
-below-more j k (Leaf a) le h = tt
-below-more j k (Add x y d) le h = (omega (arith, le, h.0), omega (arith, le, h.1))
-below-more j k (Sub x y d) le h = (omega (arith, le, h.0), omega (arith, le, h.1))
-below-more j k (Neg x d) le h = omega (arith, le, h)
-below-more j k (Mul x y d) le h = (omega (arith, le, h.0), omega (arith, le, h.1))
+below-more j k n le h = λ i d b. let low = h i d b in omega (arith, le, low)
 
 module _ {A : Type 0} (named : ℕ → Option ℕ) where
   abbrev step : (ℕ → Shown A) → SymbolicExpr A → Shown A
@@ -27,10 +23,10 @@ module _ {A : Type 0} (named : ℕ → Option ℕ) where
 
     node-before : (n : SymbolicExpr A) → OperandsBelow i n → shown_node (shown_number named (take i ns)) n ≡ shown_node (shown_number named ns) n
     node-before (Leaf a) h = refl
-    node-before (Add x y d) h = ap₂ sum (operand-before x h.0) (operand-before y h.1)
-    node-before (Sub x y d) h = ap₂ difference (operand-before x h.0) (operand-before y h.1)
-    node-before (Neg x d) h = ap negative (operand-before x h)
-    node-before (Mul x y d) h = ap₂ product (operand-before x h.0) (operand-before y h.1)
+    node-before (Add x y d) h = ap₂ sum (operand-before x (h 0 x (omega arith))) (operand-before y (h 1 y (omega arith)))
+    node-before (Sub x y d) h = ap₂ difference (operand-before x (h 0 x (omega arith))) (operand-before y (h 1 y (omega arith)))
+    node-before (Neg x d) h = ap negative (operand-before x (h 0 x (omega arith)))
+    node-before (Mul x y d) h = ap₂ product (operand-before x (h 0 x (omega arith))) (operand-before y (h 1 y (omega arith)))
 
   module _ {F : Type 0} (l : Leaves A F) (ns : List (SymbolicExpr A)) (i : ℕ) (n : SymbolicExpr A) (is : IsNode l ns i n) where
     -- an expression is shown as its node

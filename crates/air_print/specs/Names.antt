@@ -2,9 +2,10 @@
 use Rattle.std.specs.Prelude.{slice_get, ◌≡◌, ℕ, zero, suc, ◌+◌, Bool, true, false, ◌&&◌, is_some, nat_le, ◌==◌, if◌then◌else◌, List, [], ◌∷◌, ◌++◌, length, slice_index_or, Option, None, Some}
 use Rattle.std.specs.List.{count_by}
 use Rattle.air_symbolic.specs.Leaves.{Leaves}
+use Rattle.air_symbolic.specs.Nodes.{operands}
 use Rattle.air_symbolic.specs.Reach.{Reached}
 use Rattle.air_symbolic.specs.declared.pools.expr.SymbolicExpr.{SymbolicExpr}
-use Rattle.air_symbolic.specs.declared.pools.expr.SymbolicExpr.TheVariants.{Leaf, Add, Sub, Neg, Mul}
+use Rattle.air_symbolic.specs.declared.pools.expr.SymbolicExpr.TheVariants.{Leaf}
 
 -- ---- sums and filters below a bound
 
@@ -26,11 +27,7 @@ one_if_is i x = if x == i then 1 else 0
 
 -- the number of operands of a node that are expression i
 abbrev pub operand_places : {A : Type 0} → ℕ → SymbolicExpr A → ℕ
-operand_places i (Leaf a) = 0
-operand_places i (Add x y d) = one_if_is i x + one_if_is i y
-operand_places i (Sub x y d) = one_if_is i x + one_if_is i y
-operand_places i (Neg x d) = one_if_is i x
-operand_places i (Mul x y d) = one_if_is i x + one_if_is i y
+operand_places i n = count_by (λ x. x == i) (operands n)
 
 abbrev pub node_places : {A : Type 0} → ℕ → Option (SymbolicExpr A) → ℕ
 node_places i None = 0
@@ -53,10 +50,7 @@ count_of_places ns roots marks i = count_by (λ root. root == i) roots + total_b
 
 abbrev pub is_operation : {A : Type 0} → SymbolicExpr A → Bool
 is_operation (Leaf a) = false
-is_operation (Add x y d) = true
-is_operation (Sub x y d) = true
-is_operation (Neg x d) = true
-is_operation (Mul x y d) = true
+is_operation _ = true
 
 abbrev pub has_operation : {A : Type 0} → Option (SymbolicExpr A) → Bool
 has_operation None = false

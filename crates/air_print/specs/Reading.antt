@@ -10,18 +10,12 @@ use Rattle.air_print.specs.Names.{is_reached, passing_below}
 
 abbrev pub is_variable_leaf : {F : Type 0} → BaseLeaf F → Bool
 is_variable_leaf (leaf.Variable v) = true
-is_variable_leaf leaf.IsFirstRow = false
-is_variable_leaf leaf.IsLastRow = false
-is_variable_leaf leaf.IsTransition = false
-is_variable_leaf (leaf.Constant c) = false
+is_variable_leaf _ = false
 
 -- a column, a periodic column or a public value
 abbrev pub is_variable : {F : Type 0} → SymbolicExpr (BaseLeaf F) → Bool
 is_variable (node.Leaf a) = is_variable_leaf a
-is_variable (node.Add x y d) = false
-is_variable (node.Sub x y d) = false
-is_variable (node.Neg x d) = false
-is_variable (node.Mul x y d) = false
+is_variable _ = false
 
 abbrev pub has_variable : {F : Type 0} → Option (SymbolicExpr (BaseLeaf F)) → Bool
 has_variable None = false

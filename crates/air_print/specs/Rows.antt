@@ -1,14 +1,9 @@
 -- The values that the leaves read at a row.
-use Rattle.std.specs.Prelude.{ℕ, ◌%◌, List, [], length, map, Option, None, Some, Vec, slice_index_or}
+use Rattle.std.specs.Prelude.{ℕ, ◌%◌, List, length, map, Vec, slice_index_or}
 use Rattle.std.specs.Global.{Global}
 use Rattle.air_field.specs.Assignment.{Trace}
-use Rattle.air_field.specs.Grid.{Grid}
+use Rattle.air_field.specs.Grid.{table_grid}
 use Rattle.air_print.specs.declared.rows.TraceRows.{TraceRows}
-
--- the preprocessed trace; without one, a trace with no columns and no rows
-abbrev pub table_rows : {F : Type 0} → Option (Grid F) → Grid F
-table_rows None = record { width = 0; rows = [] }
-table_rows (Some table) = table
 
 abbrev pub columns_of : {F : Type 0} → List (Vec F Global) → List (List F)
 columns_of columns = map (λ column. column.items) columns
@@ -21,7 +16,7 @@ periodic_at z columns row c =
 abbrev pub trace_of : {F : Type 0} → TraceRows F → Trace F
 trace_of t = record {
   main_trace = t.main.now;
-  preprocessed_trace = table_rows t.preprocessed.now;
+  preprocessed_trace = table_grid t.preprocessed.now;
   periodic_columns = columns_of t.periodic.now;
   public_values = t.public_values.now;
 }

@@ -1,12 +1,11 @@
 //! How often each expression is used: never, once or more.
 ghost use Rattle.std.specs.Prelude.{◌≡◌, ℕ, ◌+◌, ◌<◌, ◌==◌, length, All, IfOk};
 ghost use Rattle.std.specs.List.{count_by};
-ghost use Rattle.air_symbolic.specs.Nodes.{OperandsBelow};
 ghost use Rattle.air_symbolic.specs.Pools.{FitsBase, size};
-ghost use Rattle.air_print.specs.Names.{one_if_is, operand_places, total_below, places_at, count_of_places};
+ghost use Rattle.air_print.specs.Names.{one_if_is, total_below, places_at, count_of_places};
 ghost use Rattle.air_print.specs.Counts.{places_for, AreCounted, AreMarks};
 
-use air_symbolic::{ExprId, ExprPool, SymLeaf, SymbolicExpr};
+use air_symbolic::{ExprId, ExprPool, SymLeaf};
 use std::alloc::{AllocError, Global};
 
 /// How often an expression is used.
@@ -37,38 +36,14 @@ fn count_place<A: SymLeaf>(counts: &mut [Places], x: ExprId<A>)
     counts[number] = one_more(counts[number]);
 }
 
-// Counts the operands of a node.
-fn count_operands<A: SymLeaf>(counts: &mut [Places], node: SymbolicExpr<A>)
-    requires { OperandsBelow (length counts.old) node }
+// Counts a use of each expression of a list.
+fn count_each<A: SymLeaf>(counts: &mut [Places], used: &[ExprId<A>])
+    requires { All (λ x. x < length counts.old) used.now }
     ensures { (f : ℕ → ℕ) → AreCounted f counts.old →
-        AreCounted (λ i. f i + operand_places i node) counts.new }
+        AreCounted (λ i. f i + count_by (λ x. x == i) used.now) counts.new }
 {
-    match node {
-        SymbolicExpr::Leaf(_) => {}
-        SymbolicExpr::Add { x, y, .. } => {
-            count_place(counts, x);
-            count_place(counts, y);
-        }
-        SymbolicExpr::Sub { x, y, .. } => {
-            count_place(counts, x);
-            count_place(counts, y);
-        }
-        SymbolicExpr::Neg { x, .. } => count_place(counts, x),
-        SymbolicExpr::Mul { x, y, .. } => {
-            count_place(counts, x);
-            count_place(counts, y);
-        }
-    }
-}
-
-// Counts the uses by the roots.
-fn count_roots<A: SymLeaf>(counts: &mut [Places], roots: &[ExprId<A>])
-    requires { All (λ x. x < length counts.old) roots.now }
-    ensures { (f : ℕ → ℕ) → AreCounted f counts.old →
-        AreCounted (λ i. f i + count_by (λ root. root == i) roots.now) counts.new }
-{
-    for root in roots {
-        count_place(counts, *root);
+    for x in used {
+        count_place(counts, *x);
     }
 }
 
@@ -87,7 +62,7 @@ fn count_node<A: SymLeaf>(
         AreCounted (λ i. f i + places_at pool.now.nodes marks.now i number) counts.new }
 {
     if let Some(id) = marks[number] {
-        count_operands(counts, *pool.node(id));
+        count_each(counts, pool.node(id).operands().as_slice());
     }
 }
 
@@ -119,7 +94,7 @@ fn count_all<A: SymLeaf>(
     requires none { AreCounted (λ _. 0) counts.old }
     ensures { AreCounted (count_of_places pool.now.nodes roots.now marks.now) counts.new }
 {
-    count_roots(counts, roots);
+    count_each(counts, roots);
     count_reached(counts, pool, marks);
 }
 

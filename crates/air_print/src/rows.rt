@@ -1,14 +1,15 @@
 //! The rows of a trace, as leaves read them.
-ghost use Rattle.std.specs.Prelude.{◌≡◌, ◌<◌, ◌+◌, ◌%◌, ◌==◌, if◌then◌else◌, length, map, slice_get, slice_index_or};
-ghost use Rattle.air_field.specs.Assignment.{row_or_none, column_value, selector, row_assignment};
+ghost use Rattle.std.specs.Prelude.{◌≡◌, ◌<◌, ◌+◌, ◌%◌, length, map, slice_get, slice_index_or};
+ghost use Rattle.air_field.specs.Assignment.{row_or_none, column_value, row_assignment};
+ghost use Rattle.air_field.specs.Grid.{table_grid};
 ghost use Rattle.air_field.specs.Ring.{self_algebra};
 ghost use Rattle.air_field.specs.Value.{value};
 ghost use Rattle.air_core.specs.Entries.{entry_leaf};
 ghost use Rattle.air_symbolic.specs.BaseLeaves.{base_term};
-ghost use Rattle.air_print.specs.Rows.{table_rows, periodic_at, trace_of};
+ghost use Rattle.air_print.specs.Rows.{periodic_at, trace_of};
 
-use air_core::BaseEntry;
-use air_field::{Field, RowMajorMatrix};
+use air_core::{BaseEntry, Selectors};
+use air_field::{Field, RowMajorMatrix, row_after};
 use air_symbolic::BaseLeaf;
 
 /// The data that leaves read. Missing entries read as zero.
@@ -31,14 +32,6 @@ pub(crate) fn entry_of<F: Field>(table: &RowMajorMatrix<F>, row: usize, column: 
         Some(entry) => entry,
         None => F::ZERO,
     }
-}
-
-// The next row; the first row follows the last.
-fn row_after(row: usize, height: usize) -> usize
-    requires { row < height }
-    ensures { result ≡ (row + 1) % height }
-{
-    if row + 1 == height { 0 } else { row + 1 }
 }
 
 // The entry of a trace in the row that is `offset` rows further on; zero if `offset` is past 1.
@@ -70,8 +63,8 @@ fn table_column_of<F: Field>(
 ) -> F
     requires { row < height }
     ensures { result ≡ column_value F.ring.zero
-        (row_or_none (slice_get (table_rows table.now).rows row))
-        (row_or_none (slice_get (table_rows table.now).rows ((row + 1) % height))) offset column }
+        (row_or_none (slice_get (table_grid table.now).rows row))
+        (row_or_none (slice_get (table_grid table.now).rows ((row + 1) % height))) offset column }
 {
     match table {
         Some(table) => column_of(table, row, height, offset, column),
@@ -111,28 +104,6 @@ pub(crate) fn public_of<F: Field>(public_values: &[F], index: usize) -> F
     }
 }
 
-// One if `on`, otherwise zero.
-fn selector<F: Field>(on: bool) -> F
-    ensures { result ≡ selector F.ring on }
-{
-    if on { F::ONE } else { F::ZERO }
-}
-
-// Zero if `on`, otherwise one.
-fn other_selector<F: Field>(on: bool) -> F
-    ensures { result ≡ if on then F.ring.zero else F.ring.one }
-{
-    if on { F::ZERO } else { F::ONE }
-}
-
-// Whether the row is the last.
-fn is_last(row: usize, height: usize) -> bool
-    requires { row < height }
-    ensures { result ≡ (row + 1 == height) }
-{
-    row + 1 == height
-}
-
 // The value of a variable at a row.
 fn variable_value<F: Field>(
     trace: &TraceRows<'_, F>,
@@ -160,12 +131,12 @@ pub(crate) fn leaf_value<F: Field>(trace: &TraceRows<'_, F>, row: usize, leaf: B
     ensures { result ≡ value (self_algebra F.ring) (row_assignment F.ring (trace_of trace.now) row)
         (base_term leaf) }
 {
-    let height = trace.main.height();
+    let selectors = Selectors::at(row, trace.main.height());
     match leaf {
         BaseLeaf::Variable(v) => variable_value(trace, row, v.entry, v.index),
-        BaseLeaf::IsFirstRow => selector(row == 0),
-        BaseLeaf::IsLastRow => selector(is_last(row, height)),
-        BaseLeaf::IsTransition => other_selector(is_last(row, height)),
+        BaseLeaf::IsFirstRow => selectors.is_first_row,
+        BaseLeaf::IsLastRow => selectors.is_last_row,
+        BaseLeaf::IsTransition => selectors.is_transition,
         BaseLeaf::Constant(c) => c,
     }
 }

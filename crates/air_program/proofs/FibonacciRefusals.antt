@@ -4,7 +4,7 @@ use Rattle.std.proofs.Math.Nat.{max-le, le-max_left, le-max_right}
 use Rattle.air_field.specs.Ring.{CommRing, AlgebraOver, self_algebra}
 use Rattle.air_field.specs.Term.{Leaf, permutation, Term}
 use Rattle.air_field.specs.Part.{Part, whole, in_add_left, in_add_right, in_sub_left, in_sub_right, in_neg, in_mul_left, in_mul_right}
-use Rattle.air_field.specs.Degree.{degree_by, cached_weight, trace_weight, greatest_degree}
+use Rattle.air_field.specs.Degree.{degree_by, cached_weight, trace_weight, greatest_degree, inferred_degree}
 use Rattle.air_field.specs.Grid.{Grid}
 use Rattle.air_field.specs.Assignment.{Shape, IsMissing, trace_shape}
 use Rattle.air_builder.specs.Assertion.{Assertion, Base, Extension}
@@ -20,6 +20,7 @@ use Rattle.air_report.specs.laws.Plain.{plain_refusal}
 use Rattle.air_builder.specs.Refused.{Refused}
 use Rattle.air_recording.specs.Kinds.{base_terms, ext_terms}
 use Rattle.air_recording.specs.Recorded.{EachRecords, RecordsTerm}
+use Rattle.air_recording.specs.laws.Bounds.{quotient_within}
 use Rattle.air_audit.specs.Theorem.{DegreeOverflows, RecordingRefuses, instance, shape_with}
 use Rattle.air_audit.specs.Audits.{AuditRefusesUnder, IsDegreePast}
 use Rattle.air_audit.specs.laws.Theorem.{each_base_back, each_ext_back}
@@ -89,9 +90,13 @@ module _ (F : Type 0) where
   unfolding TermsBelow
   trace_below n = (omega arith, (omega arith, (omega arith, (omega arith, (omega arith, tt)))))
 
-  none_below : (n : ℕ) → TermsBelow {F = F} (trace_weight n []) (n + n + 1) (ext_terms fibonacci)
+  counted_below : TermsBelow {F = F} cached_weight 2 (base_terms fibonacci)
   unfolding TermsBelow
-  none_below n = tt
+  counted_below = (omega arith, (omega arith, (omega arith, (omega arith, (omega arith, tt)))))
+
+  none_below : (w : Leaf → ℕ) (b : ℕ) → TermsBelow {F = F} w b (ext_terms fibonacci)
+  unfolding TermsBelow
+  none_below w b = tt
 
   -- a check fails only with `Memory`
   check_refuses : (g : Grid F) (public : List F) (e : AirError) → g.width ≡ 2 → length public ≡ 3 → Refused {F = F} (IsMissing (trace_shape (plain_trace g public))) (λ _. ⊥) (IsFull 0) e fibonacci → e ≡ Memory
@@ -119,9 +124,12 @@ module _ (F : Type 0) where
   recording_refuses _ h = absurd h
 
   -- no degree passes `usize`
-  degree_fits : (r : CommRing F) (n : ℕ) (us vs : List (Term F)) → n < 2 ^ 63 → EachRecords (self_algebra r) us (base_terms fibonacci) → EachRecords (self_algebra r) vs (ext_terms fibonacci) → 2 ^ 64 ≤ greatest_degree (trace_weight n []) (us ++ vs) → ⊥
+  degree_fits : (r : CommRing F) (n : ℕ) (us vs : List (Term F)) → n < 2 ^ 63 → EachRecords (self_algebra r) us (base_terms fibonacci) → EachRecords (self_algebra r) vs (ext_terms fibonacci) → 2 ^ 64 ≤ inferred_degree n [] (us ++ vs) → ⊥
   degree_fits r n us vs b m k past =
-      absurd (omega (arith, b, past, both_below (self_algebra r) (trace_weight n []) (n + n + 1) us (base_terms fibonacci) vs (ext_terms fibonacci) m k (trace_below n) (none_below n)))
+      let over_rows = both_below (self_algebra r) (trace_weight n []) (n + n + 1) us (base_terms fibonacci) vs (ext_terms fibonacci) m k (trace_below n) (none_below (trace_weight n []) (n + n + 1)) in
+      let cached = both_below (self_algebra r) cached_weight 2 us (base_terms fibonacci) vs (ext_terms fibonacci) m k counted_below (none_below cached_weight 2) in
+      let within = quotient_within (greatest_degree (trace_weight n []) (us ++ vs)) n in
+      absurd (omega (arith, b, past, over_rows, cached, within))
 
   -- only in a domain whose weight isn't 0 may the degree pass `usize`
   some_weight : (r : CommRing F) (eq : F → F → Bool) (main : Grid F) (public : List F) (cap : Option ℕ) (w : ℕ) → length main.rows < 2 ^ 63

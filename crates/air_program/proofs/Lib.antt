@@ -10,7 +10,6 @@ pub mod Caps
 pub mod Traces
 pub mod Equality
 pub mod FlatAnswers
-pub mod ExplainAnswers
 pub mod ExplainedLemmas
 pub mod Outcomes
 pub mod NamedAnswers

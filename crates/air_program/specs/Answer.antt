@@ -1,4 +1,4 @@
--- The findings of an audit, and the answer to an input that is a trace of Fibonacci.
+-- Audits, and the answer to an input that is a trace of Fibonacci.
 use Rattle.std.specs.Prelude.{◌≡◌, ◌⊎◌, ◌<◌, ◌==◌, ℕ, List, codes, Bool, Option, Some, None}
 use Rattle.air_field.specs.Grid.{Grid, grid_of}
 use Rattle.air_field.specs.Extension.{own_basis}
@@ -11,31 +11,20 @@ use Rattle.air_audit.specs.declared.audit.Audit.{Audit}
 use Rattle.air_core.specs.declared.errors.AirError.{AirError}
 use Rattle.example_fibonacci.specs.Fibonacci.{fibonacci_declaration}
 use Rattle.air_program.specs.Parsing.{element_values}
-use Rattle.air_program.specs.Texts.{Found, found_in, IsFindingsText, findings_status}
+use Rattle.air_program.specs.Texts.{TellsFound}
 use Rattle.air_program.specs.Refusals.{AnswersRefusal}
 
 -- two elements are equal if their canonical numbers are
 abbrev pub equal_numbers : {F : Type 0} {p : ℕ} → Modular F p → F → F → Bool
 equal_numbers m a b = m.value a == m.value b
 
--- the findings of an audit
-abbrev pub found_by : {F : Type 0} → Audit F → Found
-found_by audit = found_in (record { degree = audit.degree; report = audit.report })
-
--- An audit of an instance, under a cap and in a domain of weight w, has these findings.
-pub record AuditFinds {F : Type 0} {p : ℕ} (m : Modular F p) (x : Instance F) (cap : Option ℕ) (w : ℕ) (f : Found) : Type 0 where
-  pub audit : Audit F
-  pub is_audit : IsAuditUnder (modular_ring m) (equal_numbers m) own_basis x cap w audit
-  pub found_is : f ≡ found_by audit
+-- the audit of an instance, under a cap and in a domain of weight w
+abbrev pub IsCappedAudit : {F : Type 0} {p : ℕ} → Modular F p → Instance F → Option ℕ → ℕ → Audit F → Type 0
+IsCappedAudit m = IsAuditUnder (modular_ring m) (equal_numbers m) own_basis
 
 -- the errors of such an audit
 abbrev pub CappedAuditRefuses : {F : Type 0} {p : ℕ} → Modular F p → Instance F → Option ℕ → ℕ → AirError → Type 0
 CappedAuditRefuses m = AuditRefusesUnder (modular_ring m) (equal_numbers m)
-
--- the status and the text for the findings of an audit
-abbrev pub TellsFound : {F : Type 0} {p : ℕ} → Modular F p → Instance F → Option ℕ → ℕ → ℕ → List ℕ → Type 0
-TellsFound m x cap w status text =
-    (f : Found) × AuditFinds m x cap w f × (status ≡ findings_status f) × IsFindingsText f text
 
 -- ---- Fibonacci
 
@@ -50,7 +39,7 @@ PassesDegree x cap w = (0 < w) × IsDegreePast (modular_ring baby_bears) (equal_
 -- the findings, or `DegreeOverflow` if a degree passes `usize`
 abbrev pub AnswersGiven : Instance BabyBear → Option ℕ → ℕ → ℕ → List ℕ → Type 0
 AnswersGiven x cap w status text =
-    TellsFound baby_bears x cap w status text
+    ((audit : Audit BabyBear) × IsCappedAudit baby_bears x cap w audit × TellsFound audit status text)
     ⊎ (PassesDegree x cap w × AnswersRefusal (codes "DegreeOverflow") status text)
 
 -- `Syntax` if the input isn't in the grammar, otherwise the answer to its trace

@@ -34,6 +34,10 @@ HasParts m parts d = ArePartsOf m d (view parts.rest) parts.main parts.constrain
 abbrev pub AnswersParts : ((F : Type 0) (p : ℕ) → Modular F p → Data → ℕ → List ℕ → Type 0) → {F : Type 0} {p : ℕ} → Modular F p → Parts F → ℕ → List ℕ → Type 0
 AnswersParts answers m parts status text = (d : Data) → HasParts m parts d → answers _ _ m d status text
 
+-- the answer to a value over the field of this name
+abbrev pub AnswersOver : ((F : Type 0) (p : ℕ) → Modular F p → Data → ℕ → List ℕ → Type 0) → FieldName → List ℕ → ℕ → List ℕ → Type 0
+AnswersOver answers field = AnswersValue (λ d status text. OverField (λ F p m. answers F p m d status text) field)
+
 -- the answer over the named field, or `Field` if none is named
 abbrev pub AnswersNamed : ((F : Type 0) (p : ℕ) → Modular F p → Data → ℕ → List ℕ → Type 0) → Option FieldName → Data → ℕ → List ℕ → Type 0
 AnswersNamed answers None d status text = AnswersRefusal (codes "Field") status text

@@ -7,6 +7,7 @@ use Rattle.air_program.specs.declared.commands.Command.{Command}
 use Rattle.air_program.specs.declared.commands.Request.{Request}
 use Rattle.air_program.specs.declared.commands.Command.TheVariants as commands
 use Rattle.air_program.specs.declared.commands.Request.TheVariants as requests
+use Rattle.air_program.specs.declared.commands.Wanted.TheVariants as wanted
 
 -- the AIR that the first word names
 abbrev pub command_of : List ℕ → Option Command
@@ -29,7 +30,7 @@ weight_of word =
 
 -- an audit of the command's AIR on a trace, under the cap if there is one, in a domain of weight w
 abbrev pub trace : Option ℕ → ℕ → Command → Request
-trace cap w command = requests.Trace command cap w
+trace cap w command = requests.Trace (record { command = command; cap = cap; transition_weight = w })
 
 -- a command and one word: a weight and no cap, or else a cap and the weight 0
 abbrev pub setting_of : Command → List ℕ → Option ℕ → Option Request
@@ -45,9 +46,9 @@ settings_of command cap weight =
 -- the request of a single word
 abbrev pub word_request : List ℕ → Option Request
 word_request word =
-    if bytes_eq word (codes "flat") then Some requests.Flat else
-    if bytes_eq word (codes "show") then Some requests.Show else
-    if bytes_eq word (codes "explain") then Some requests.Explain else
+    if bytes_eq word (codes "flat") then Some (requests.Object wanted.Audit) else
+    if bytes_eq word (codes "show") then Some (requests.Object wanted.Show) else
+    if bytes_eq word (codes "explain") then Some (requests.Object wanted.Explain) else
     option_map (trace None 0) (command_of word)
 
 -- a single word, or a command followed by a cap, a weight or both

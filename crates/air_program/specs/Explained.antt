@@ -1,11 +1,10 @@
 -- The answer to the word `explain`.
-use Rattle.std.specs.Prelude.{◌≡◌, ℕ, ◌-◌, ◌<◌, List, [], ◌∷◌, ◌++◌, length, map, Option, None, Some, Vec, slice_get}
-use Rattle.std.specs.Global.{Global}
+use Rattle.std.specs.Prelude.{◌≡◌, ℕ, ◌-◌, ◌<◌, List, [], ◌∷◌, ◌++◌, length, map, Option, None, Some, slice_get}
 use Rattle.std.specs.Option.{option_to_list}
 use Rattle.std.specs.List.{AllZip, flat_map}
 use Rattle.serde_json.specs.Data.{Data}
 use Rattle.air_field.specs.Assignment.{Trace, row_assignment}
-use Rattle.air_field.specs.Grid.{Grid}
+use Rattle.air_field.specs.Grid.{table_grid}
 use Rattle.air_field.specs.Modular.{Modular, modular_ring}
 use Rattle.air_field.specs.Term.{Leaf}
 use Rattle.air_core.specs.declared.boundary.BoundaryPublic.{BoundaryPublic}
@@ -15,12 +14,10 @@ use Rattle.air_symbolic.specs.Reach.{Reached}
 use Rattle.air_print.specs.Names.{AreNames}
 use Rattle.air_print.specs.Cells.{cell_line}
 use Rattle.air_print.specs.Explained.{Explains, reached_definitions}
-use Rattle.air_report.specs.Instances.{table_grid}
+use Rattle.air_audit.specs.declared.audit.Audit.{Audit}
 use Rattle.air_object.specs.declared.input.FlatInput.{FlatInput}
-use Rattle.air_program.specs.Answer.{AuditFinds}
-use Rattle.air_program.specs.ByField.{AnswersBytes}
-use Rattle.air_program.specs.FlatAnswer.{flat_instance, AnswersInput}
-use Rattle.air_program.specs.Texts.{Found, place_of, IsFailureLine, count_lines, findings_status}
+use Rattle.air_program.specs.FlatAnswer.{AnswersAudit}
+use Rattle.air_program.specs.Texts.{Found, found_in, place_of, IsFailureLine, count_lines, findings_status}
 use Rattle.air_print.specs.Lines.{lines_text}
 
 -- a failure: its row, its constraint and the label's bytes
@@ -82,26 +79,20 @@ pub record IsExplainedText {F : Type 0} {p : ℕ} (m : Modular F p) (pool : Base
   pub failing : Reached base_leaves pool.nodes (failing_roots roots f.failures) marks
   pub explains : PushesExplained m pool roots cells trace names.1 f.failures (lines_text (front_lines m pool names marks f)) text
 
--- a trace of a main trace, a preprocessed trace, periodic columns and public values
-abbrev pub trace_with : {F : Type 0} → Grid F → Option (Grid F) → List (Vec F Global) → List F → Trace F
-trace_with main table periodic public = record {
-  main_trace = main;
-  preprocessed_trace = table_grid table;
-  periodic_columns = map (λ column. column.items) periodic;
-  public_values = public;
+-- the trace of an input
+abbrev pub input_trace : {F : Type 0} → FlatInput F → Trace F
+input_trace i = record {
+  main_trace = i.trial.main;
+  preprocessed_trace = table_grid i.beside.preprocessed;
+  periodic_columns = map (λ column. column.items) i.beside.periodic.items;
+  public_values = i.trial.public_values.items;
 }
 
-module _ {F : Type 0} {p : ℕ} (m : Modular F p) where
-  -- the status and the text of its audit's findings, explained
-  abbrev pub TellsExplained : FlatInput F → ℕ → List ℕ → Type 0
-  TellsExplained input status text =
-      (f : Found) × AuditFinds m (flat_instance input) input.cap input.transition_weight f
-      × (status ≡ findings_status f)
-      × IsExplainedText m input.pool input.roots.items input.cells.items (trace_with input.main input.preprocessed input.periodic.items input.public_values.items) f text
+-- the explanation of what an audit of the input found
+abbrev pub ExplainsInput : {F : Type 0} {p : ℕ} → Modular F p → FlatInput F → Audit F → List ℕ → Type 0
+ExplainsInput m i audit = IsExplainedText m i.constraints.pool i.constraints.roots.items i.beside.cells.items (input_trace i) (found_in audit)
 
--- the explained findings of the audit of the input that the value spells, or the first error
+-- what the audit found, explained, or the first error
 abbrev pub ExplainedIn : (F : Type 0) (p : ℕ) → Modular F p → Data → ℕ → List ℕ → Type 0
-ExplainedIn F p m = AnswersInput m (TellsExplained m)
-
-abbrev pub IsExplainAnswer : List ℕ → ℕ → List ℕ → Type 0
-IsExplainAnswer = AnswersBytes ExplainedIn
+ExplainedIn F p m =
+    AnswersAudit m (λ input audit status text. (status ≡ findings_status (found_in audit)) × ExplainsInput m input audit text)

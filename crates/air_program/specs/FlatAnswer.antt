@@ -1,41 +1,42 @@
--- The answer to an input that is a JSON object.
-use Rattle.std.specs.Prelude.{◌⊎◌, ℕ, List, length}
+-- The audit of an input that is a JSON object, and the answer to the word `flat`.
+use Rattle.std.specs.Prelude.{◌⊎◌, ℕ, List}
 use Rattle.serde_json.specs.Data.{Data}
 use Rattle.air_field.specs.Modular.{Modular}
-use Rattle.air_builder.specs.Declaration.{Declaration}
+use Rattle.air_core.specs.declared.errors.AirError.{AirError}
+use Rattle.air_builder.specs.Declaration.{declaration_of}
 use Rattle.air_audit.specs.FlatAirs.{zero_at_roots}
+use Rattle.air_audit.specs.Theorem.{Instance, instance}
+use Rattle.air_audit.specs.declared.audit.Audit.{Audit}
+use Rattle.air_audit.specs.declared.flat.flat_air.FlatAir.{FlatAir}
 use Rattle.air_object.specs.Input.{SpellsInput, HasInputFault}
 use Rattle.air_object.specs.declared.input.FlatInput.{FlatInput}
-use Rattle.air_audit.specs.Theorem.{Instance, instance}
-use Rattle.air_core.specs.declared.errors.AirError.{AirError}
-use Rattle.air_program.specs.Answer.{CappedAuditRefuses, TellsFound}
-use Rattle.air_program.specs.ByField.{AnswersBytes}
+use Rattle.air_object.specs.declared.input.Trial.{Trial}
+use Rattle.air_program.specs.Answer.{IsCappedAudit, CappedAuditRefuses}
 use Rattle.air_program.specs.Refusals.{AnswersRefusal, air_name}
+use Rattle.air_program.specs.Texts.{TellsFound}
 
--- all roots are zero; the width of the trace and the number of public values; the preprocessed trace, periodic columns and boundary values
-abbrev pub flat_declaration : {F : Type 0} → FlatInput F → Declaration F
-flat_declaration input = record {
-  constraints = zero_at_roots input.pool input.roots.items;
-  width = input.main.width;
-  num_public_values = length input.public_values.items;
-  preprocessed = input.preprocessed;
-  periodic = input.periodic.items;
-  cells = input.cells.items;
+-- an AIR and what it is audited on, as the input that they are made of
+abbrev pub input_of : {F : Type 0} → FlatAir F → Trial F → FlatInput F
+input_of air trial = record {
+  constraints = record { pool = air.pool; roots = air.roots; labels = air.labels };
+  beside = air.beside;
+  trial = trial;
 }
 
--- this declaration on the input's trace
+-- the AIR that declares that each constraint is zero, and what the input has beside these, on the input's trace
 abbrev pub flat_instance : {F : Type 0} → FlatInput F → Instance F
-flat_instance input = instance (flat_declaration input) input.main input.public_values.items
+flat_instance i =
+    instance (declaration_of (zero_at_roots i.constraints.pool i.constraints.roots.items) i.beside) i.trial.main i.trial.public_values.items
 
 module _ {F : Type 0} {p : ℕ} (m : Modular F p) where
-  -- the status and the text of its audit's findings, under its cap and in a domain of its weight
-  abbrev pub TellsInput : FlatInput F → ℕ → List ℕ → Type 0
-  TellsInput input status text =
-      TellsFound m (flat_instance input) input.cap input.transition_weight status text
+  -- The value spells an input, and this is its audit.
+  pub record AuditsValue (d : Data) (input : FlatInput F) (audit : Audit F) : Type 0 where
+    pub spelt : SpellsInput m d input
+    pub audited : IsCappedAudit m (flat_instance input) input.trial.cap input.trial.transition_weight audit
 
-  -- the errors of its audit
+  -- the errors of an input's audit
   abbrev pub AuditRefusesInput : FlatInput F → AirError → Type 0
-  AuditRefusesInput input e = CappedAuditRefuses m (flat_instance input) input.cap input.transition_weight e
+  AuditRefusesInput input = CappedAuditRefuses m (flat_instance input) input.trial.cap input.trial.transition_weight
 
   -- the first error: of reading the members, then of the matrices, and if the value spells an input, of the audit
   abbrev pub RefusesValue : Data → AirError → Type 0
@@ -43,15 +44,12 @@ module _ {F : Type 0} {p : ℕ} (m : Modular F p) where
       HasInputFault m d e
       ⊎ ((input : FlatInput F) × SpellsInput m d input × AuditRefusesInput input e)
 
-  -- the answer by `tells` to the input that the value spells, or the name of the first error
-  abbrev pub AnswersInput : (FlatInput F → ℕ → List ℕ → Type 0) → Data → ℕ → List ℕ → Type 0
-  AnswersInput tells d status text =
-      ((input : FlatInput F) × SpellsInput m d input × tells input status text)
+  -- the answer by `tells` to the input that the value spells and its audit, or the name of the first error
+  abbrev pub AnswersAudit : (FlatInput F → Audit F → ℕ → List ℕ → Type 0) → Data → ℕ → List ℕ → Type 0
+  AnswersAudit tells d status text =
+      ((input : FlatInput F) × (audit : Audit F) × AuditsValue d input audit × tells input audit status text)
       ⊎ ((e : AirError) × RefusesValue d e × AnswersRefusal (air_name e) status text)
 
--- the findings of the audit of the input that the value spells, or the first error
+-- what the audit found, or the first error
 abbrev pub AuditedIn : (F : Type 0) (p : ℕ) → Modular F p → Data → ℕ → List ℕ → Type 0
-AuditedIn F p m = AnswersInput m (TellsInput m)
-
-abbrev pub IsFlatAnswer : List ℕ → ℕ → List ℕ → Type 0
-IsFlatAnswer = AnswersBytes AuditedIn
+AuditedIn F p m = AnswersAudit m (λ input. TellsFound)

@@ -1,10 +1,16 @@
 -- The steps of the parser.
-use Rattle.std.specs.Prelude.{◌≡◌, ℕ, Option, Some, option_map, List, [], ◌∷◌, ◌++◌, length, map}
+use Rattle.std.specs.Prelude.{◌≡◌, ◌⊎◌, ℕ, Option, Some, option_map, List, [], ◌∷◌, ◌++◌, length, map}
 use Rattle.air_field.specs.BabyBear.{BabyBear}
+use Rattle.air_program.specs.declared.refusals.Refusal.{Refusal}
+use Rattle.air_program.specs.declared.refusals.Refusal.TheVariants as refusals
 
 -- the canonical numbers of the elements
 abbrev pub element_values : List BabyBear → List ℕ
 element_values = map (λ x. x.residue)
+
+-- the errors of the parser
+abbrev pub IsParseRefusal : Refusal → Type 0
+IsParseRefusal why = (why ≡ refusals.Memory) ⊎ (why ≡ refusals.Syntax)
 
 -- the numbers, after those of `before`
 abbrev pub onto : List ℕ → Option (List ℕ) → Option (List ℕ)

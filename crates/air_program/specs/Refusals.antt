@@ -1,11 +1,11 @@
 -- Refusals, their names and their lines.
-use Rattle.std.specs.Prelude.{◌≡◌, ◌⊎◌, ℕ, List, [], ◌∷◌, ◌++◌, codes, Result, IfOk, IfErr, String, string_bytes}
-use Rattle.std.specs.Global.{Global}
+use Rattle.std.specs.Prelude.{◌≡◌, ◌⊎◌, ℕ, List, [], ◌∷◌, ◌++◌, codes, Result, IfOk, IfErr, string_bytes}
 use Rattle.air_core.specs.declared.errors.AirError.{AirError}
 use Rattle.air_core.specs.declared.errors.AirError.TheVariants as air
 use Rattle.air_print.specs.Lines.{lines_text}
 use Rattle.air_program.specs.declared.refusals.Refusal.{Refusal}
 use Rattle.air_program.specs.declared.refusals.Refusal.TheVariants as refusals
+use Rattle.air_program.specs.declared.texts.Answer.{Answer}
 
 -- the name of the refusal's variant
 abbrev pub air_name : AirError → List ℕ
@@ -22,6 +22,7 @@ air_name (air.LayoutPeriodicColumns a b) = codes "LayoutPeriodicColumns"
 air_name air.ForeignExpression = codes "ForeignExpression"
 air_name (air.IndexPastTotal a b) = codes "IndexPastTotal"
 air_name (air.PreprocessedHeight a b) = codes "PreprocessedHeight"
+air_name (air.PermutationHeight a b) = codes "PermutationHeight"
 air_name (air.PeriodNotPowerOfTwo a b) = codes "PeriodNotPowerOfTwo"
 air_name (air.PeriodDoesNotDivide a b c) = codes "PeriodDoesNotDivide"
 air_name (air.Boundary a) = codes "Boundary"
@@ -58,6 +59,6 @@ abbrev pub AnswersRefusal : List ℕ → ℕ → List ℕ → Type 0
 AnswersRefusal name status text = (status ≡ 2) × (text ≡ refusal_text name)
 
 -- A status and a text are an answer; so is a refusal, unless it is `Memory`.
-pub record GivesAnswer (answers : ℕ → List ℕ → Type 0) (given : Result (ℕ × String Global) Refusal) : Type 0 where
-  pub ok : IfOk given (λ p. answers p.0 (string_bytes p.1))
+pub record GivesAnswer (answers : ℕ → List ℕ → Type 0) (given : Result Answer Refusal) : Type 0 where
+  pub ok : IfOk given (λ a. answers a.status (string_bytes a.text))
   pub refused : IfErr given (λ why. (why ≡ refusals.Memory) ⊎ answers 2 (refusal_text (name_of why)))

@@ -8,7 +8,6 @@ use Rattle.air_symbolic.specs.Pools.{IsPool, tree_at, size}
 use Rattle.air_json.specs.Faults.{air_fault}
 use Rattle.air_json.specs.declared.errors.FlatError.{FlatError}
 use Rattle.air_print.specs.Lines.{ShowsRoots}
-use Rattle.air_program.specs.ByField.{AnswersBytes}
 use Rattle.air_object.specs.Members.{labelled_constraints}
 use Rattle.air_program.specs.Refusals.{AnswersRefusal, air_name}
 
@@ -27,6 +26,3 @@ abbrev pub ShownIn : (F : Type 0) (p : ℕ) → Modular F p → Data → ℕ →
 ShownIn F p m d status text =
     ((status ≡ 0) × ShowsValue m d text)
     ⊎ ((f : FlatError) × (labelled_constraints m).fault d f × AnswersRefusal (air_name (air_fault f)) status text)
-
-abbrev pub IsShowAnswer : List ℕ → ℕ → List ℕ → Type 0
-IsShowAnswer = AnswersBytes ShownIn

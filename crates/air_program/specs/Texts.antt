@@ -4,21 +4,21 @@ use Rattle.std.specs.List.{AllZip}
 use Rattle.air_print.specs.Labels.{HasNoLineEnd}
 use Rattle.air_print.specs.Lines.{lines_text}
 use Rattle.air_report.specs.FailureTexts.{seen_failure, label_suffix}
-use Rattle.air_program.specs.declared.texts.Findings.{Findings}
+use Rattle.air_audit.specs.declared.audit.Audit.{Audit}
 
--- the findings of an audit: the three counts, and the row, the constraint and the label's bytes of each failure
+-- what an audit found: the three counts, and the row, the constraint and the label's bytes of each failure
 pub record Found : Type 0 where
   pub degree : ℕ
   pub rows : ℕ
   pub constraints : ℕ
   pub failures : List (ℕ × ℕ × Option (List ℕ))
 
-abbrev pub found_in : Findings → Found
-found_in f = record {
-  degree = f.degree;
-  rows = f.report.total_rows;
-  constraints = f.report.total_constraints_per_row;
-  failures = map seen_failure f.report.failures.items;
+abbrev pub found_in : {F : Type 0} → Audit F → Found
+found_in a = record {
+  degree = a.degree;
+  rows = a.report.total_rows;
+  constraints = a.report.total_constraints_per_row;
+  failures = map seen_failure a.report.failures.items;
 }
 
 -- the row and the constraint of a failure
@@ -55,3 +55,7 @@ pub record PushesLine (f : ℕ × ℕ × Option (List ℕ)) (old new : List ℕ)
 -- 0 without failures, otherwise 1
 abbrev pub findings_status : Found → ℕ
 findings_status f = if length f.failures == 0 then 0 else 1
+
+-- the status and the text that tell what an audit found
+abbrev pub TellsFound : {F : Type 0} → Audit F → ℕ → List ℕ → Type 0
+TellsFound audit status text = (status ≡ findings_status (found_in audit)) × IsFindingsText (found_in audit) text

@@ -1,30 +1,22 @@
 //! The answer to a JSON object, over the field that its member `field` names.
 
-ghost use Rattle.std.specs.Prelude.{◌≡◌, ◌⊎◌, IfOk, IfErr};
+ghost use Rattle.std.specs.Prelude.{◌≡◌, ◌⊎◌, ℕ, List, IfOk, IfErr};
 ghost use Rattle.serde_json.specs.Data.{Data};
+ghost use Rattle.air_object.specs.Fields.{OverField};
 ghost use Rattle.air_object.specs.Parts.{InPool};
-ghost use Rattle.air_program.specs.ByField.{StandsFor, HasNoValue, HasParts, AnswersValue, AnswersParts, AnswersBytes};
+ghost use Rattle.air_program.specs.ByField.{StandsFor, HasNoValue, HasParts, AnswersValue, AnswersOver, AnswersParts, AnswersBytes};
 ghost use Rattle.air_program.specs.Refusals.{GivesAnswer};
 ghost use Rattle.air_program.specs.Wanted.{AnswersIn};
 
+use crate::commands::Wanted;
 use crate::explain::explain_parts;
 use crate::flat::audit_parts;
 use crate::refusals::Refusal;
 use crate::show::show_parts;
+use crate::texts::Answer;
 use air_field::{BabyBear, Goldilocks, KoalaBear, Mersenne31, PrimeField64};
 use air_object::{FieldName, Parts, TextFault, field_of, parts_of};
 use std::alloc::Global;
-
-/// The kind of answer to an object.
-#[derive(Clone, Copy, Debug, PartialEq, Eq, Drop)]
-pub enum Wanted {
-    /// The findings of an audit.
-    Audit,
-    /// These findings, with an explanation of each failure.
-    Explain,
-    /// The constraints.
-    Show,
-}
 
 /// The parts of the JSON value whose text the bytes are; the trace and the constraints are read over F.
 fn parts_from<F: PrimeField64>(alloc: Global, bytes: &[u8]) -> Result<Parts<F>, Refusal>
@@ -43,12 +35,12 @@ fn parts_from<F: PrimeField64>(alloc: Global, bytes: &[u8]) -> Result<Parts<F>, 
     }
 }
 
-/// The status and the text for an object over F, given its parts.
+/// The answer for an object over F, given its parts.
 fn answer_parts<F: PrimeField64 + 'static>(
     alloc: Global,
     wanted: Wanted,
     parts: Parts<F>,
-) -> Result<(u8, String), Refusal>
+) -> Result<Answer, Refusal>
     requires { InPool parts.constraints }
     ensures { GivesAnswer (AnswersParts (AnswersIn wanted) F.residues parts) result }
 {
@@ -59,12 +51,12 @@ fn answer_parts<F: PrimeField64 + 'static>(
     }
 }
 
-/// The status and the text for an object over F, given its bytes.
+/// The answer for an object over F, given its bytes.
 fn answer_over<F: PrimeField64 + 'static>(
     alloc: Global,
     wanted: Wanted,
     bytes: &[u8],
-) -> Result<(u8, String), Refusal>
+) -> Result<Answer, Refusal>
     ensures { GivesAnswer (AnswersValue (AnswersIn wanted F F.ORDER_U64 F.residues) bytes.now)
         result }
 {
@@ -72,17 +64,79 @@ fn answer_over<F: PrimeField64 + 'static>(
     answer_parts(alloc, wanted, parts)
 }
 
-/// The status and the text for a JSON object. It is read over `BabyBear`, and then again over the field that it names,
-/// if that is another one.
-pub fn answer_object(alloc: Global, wanted: Wanted, bytes: &[u8]) -> Result<(u8, String), Refusal>
+/// The answer for an object over the field of this name, given its bytes.
+fn answer_named(
+    alloc: Global,
+    wanted: Wanted,
+    field: FieldName,
+    bytes: &[u8],
+) -> Result<Answer, Refusal>
+    ensures { GivesAnswer (AnswersOver (AnswersIn wanted) field bytes.now) result }
+{
+    match field {
+        FieldName::BabyBear => answer_over::<BabyBear>(alloc, wanted, bytes),
+        FieldName::KoalaBear => answer_over::<KoalaBear>(alloc, wanted, bytes),
+        FieldName::Mersenne31 => answer_over::<Mersenne31>(alloc, wanted, bytes),
+        FieldName::Goldilocks => answer_over::<Goldilocks>(alloc, wanted, bytes),
+    }
+}
+
+/// The answer to an object that is first read over F, the field of this name. If the object names another field, it is
+/// read again over that one.
+fn answer_first<F: PrimeField64 + 'static>(
+    alloc: Global,
+    wanted: Wanted,
+    field: FieldName,
+    bytes: &[u8],
+) -> Result<Answer, Refusal>
+    requires { (d : Data) (status : ℕ) (text : List ℕ)
+        → AnswersIn wanted F F.ORDER_U64 F.residues d status text
+        → OverField (λ G p m. AnswersIn wanted G p m d status text) field }
     ensures { GivesAnswer (AnswersBytes (AnswersIn wanted) bytes.now) result }
 {
-    let parts: Parts<BabyBear> = parts_from(alloc, bytes)?;
-    match field_of(&parts.rest) {
-        Some(FieldName::BabyBear) => answer_parts(alloc, wanted, parts),
-        Some(FieldName::KoalaBear) => answer_over::<KoalaBear>(alloc, wanted, bytes),
-        Some(FieldName::Mersenne31) => answer_over::<Mersenne31>(alloc, wanted, bytes),
-        Some(FieldName::Goldilocks) => answer_over::<Goldilocks>(alloc, wanted, bytes),
-        None => Err(Refusal::Field),
+    let parts: Parts<F> = parts_from(alloc, bytes)?;
+    let Some(named) = field_of(&parts.rest) else {
+        return Err(Refusal::Field);
+    };
+    if named == field {
+        return answer_parts(alloc, wanted, parts);
+    }
+    drop(parts);
+    answer_named(alloc, wanted, named, bytes)
+}
+
+// The bytes after this piece, if they begin with it.
+fn after<'a>(bytes: &'a [u8], piece: &[u8]) -> Option<&'a [u8]> {
+    bytes.trim_ascii_start().strip_prefix(piece)
+}
+
+// The bytes of the first member's value, if that member is `field`.
+fn first_field(bytes: &[u8]) -> Option<&[u8]> {
+    let inside = after(bytes, b"{")?;
+    let named = after(inside, b"\"field\"")?;
+    let value = after(named, b":")?;
+    Some(value.trim_ascii_start())
+}
+
+// The field over which an object is read first: the one that its first member names, or else `BabyBear`.
+fn field_ahead(bytes: &[u8]) -> FieldName {
+    match first_field(bytes) {
+        Some(name) if name.starts_with(b"\"KoalaBear\"") => FieldName::KoalaBear,
+        Some(name) if name.starts_with(b"\"Mersenne31\"") => FieldName::Mersenne31,
+        Some(name) if name.starts_with(b"\"Goldilocks\"") => FieldName::Goldilocks,
+        _ => FieldName::BabyBear,
+    }
+}
+
+/// The answer to a JSON object. It is read once if its first member is `field`, or if it is over `BabyBear`.
+pub fn answer_object(alloc: Global, wanted: Wanted, bytes: &[u8]) -> Result<Answer, Refusal>
+    ensures { GivesAnswer (AnswersBytes (AnswersIn wanted) bytes.now) result }
+{
+    let first = field_ahead(bytes);
+    match first {
+        FieldName::BabyBear => answer_first::<BabyBear>(alloc, wanted, first, bytes),
+        FieldName::KoalaBear => answer_first::<KoalaBear>(alloc, wanted, first, bytes),
+        FieldName::Mersenne31 => answer_first::<Mersenne31>(alloc, wanted, first, bytes),
+        FieldName::Goldilocks => answer_first::<Goldilocks>(alloc, wanted, first, bytes),
     }
 }

@@ -12,22 +12,32 @@ pub enum Command {
     Named,
 }
 
+/// An audit of the command's AIR on a trace.
+#[derive(Clone, Copy, Debug, PartialEq, Eq, Drop)]
+pub struct TraceAudit {
+    pub command: Command,
+    /// A further row is checked only while there are fewer failures than this, if there is a cap.
+    pub cap: Option<usize>,
+    /// The weight of the domain's transition selector, 0 if the selector is linear.
+    pub transition_weight: usize,
+}
+
+/// What is wanted of a JSON object.
+#[derive(Clone, Copy, Debug, PartialEq, Eq, Drop)]
+pub enum Wanted {
+    /// The findings of an audit of its AIR on its trace.
+    Audit,
+    /// These findings, with an explanation of each failure.
+    Explain,
+    /// Its constraints, in infix notation.
+    Show,
+}
+
 /// A request.
 #[derive(Clone, Copy, Debug, PartialEq, Eq, Drop)]
 pub enum Request {
-    /// An audit of the command's AIR on a trace. A further row is checked only while there are fewer failures than the
-    /// cap, if there is one. The weight is that of the domain's transition selector, 0 if the selector is linear.
-    Trace {
-        command: Command,
-        cap: Option<usize>,
-        transition_weight: usize,
-    },
-    /// An audit of the AIR and the trace of a JSON object.
-    Flat,
-    /// The constraints of a JSON object, in infix notation.
-    Show,
-    /// An audit of the AIR and the trace of a JSON object, with an explanation of each failure.
-    Explain,
+    Trace(TraceAudit),
+    Object(Wanted),
 }
 
 /// The command with this name, if there is one.
@@ -79,16 +89,16 @@ fn with_setting(command: Command, word: &str) -> Option<Request>
     ensures { result ≡ setting_of command word.now (weight_of word.now) }
 {
     match weight_of(word) {
-        Some(transition_weight) => Some(Request::Trace {
+        Some(transition_weight) => Some(Request::Trace(TraceAudit {
             command,
             cap: None,
             transition_weight,
-        }),
-        None => Some(Request::Trace {
+        })),
+        None => Some(Request::Trace(TraceAudit {
             command,
             cap: Some(cap_of(word)?),
             transition_weight: 0,
-        }),
+        })),
     }
 }
 
@@ -96,11 +106,11 @@ fn with_setting(command: Command, word: &str) -> Option<Request>
 fn with_settings(command: Command, cap: &str, weight: &str) -> Option<Request>
     ensures { result ≡ settings_of command cap.now weight.now }
 {
-    Some(Request::Trace {
+    Some(Request::Trace(TraceAudit {
         command,
         cap: Some(cap_of(cap)?),
         transition_weight: weight_of(weight)?,
-    })
+    }))
 }
 
 /// The request of a single word.
@@ -108,20 +118,20 @@ fn word_request(word: &str) -> Option<Request>
     ensures { result ≡ word_request word.now }
 {
     if word == "flat" {
-        return Some(Request::Flat);
+        return Some(Request::Object(Wanted::Audit));
     }
     if word == "show" {
-        return Some(Request::Show);
+        return Some(Request::Object(Wanted::Show));
     }
     if word == "explain" {
-        return Some(Request::Explain);
+        return Some(Request::Object(Wanted::Explain));
     }
     let command = command_of(word)?;
-    Some(Request::Trace {
+    Some(Request::Trace(TraceAudit {
         command,
         cap: None,
         transition_weight: 0,
-    })
+    }))
 }
 
 /// The request of these words, which don't include the program's name; `None` if there is no such request.

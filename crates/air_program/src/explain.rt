@@ -1,11 +1,11 @@
 //! The answer to the word `explain`: the findings of the audit of a JSON object, with an explanation below each
 //! failure.
 
-ghost use Rattle.std.specs.Prelude.{◌≡◌, ◌<◌, ◌≤◌, ◌-◌, ◌⊎◌, ◌++◌, ◌∷◌, [], length, map, All, IfOk, IfErr, IfSome, OnOk, slice_get, string_bytes};
+ghost use Rattle.std.specs.Prelude.{◌≡◌, ◌<◌, ◌≤◌, ◌-◌, ◌++◌, ◌∷◌, [], length, map, All, IfOk, IfSome, OnOk, slice_get, string_bytes};
 ghost use Rattle.air_field.specs.Assignment.{row_assignment};
 ghost use Rattle.air_symbolic.specs.BaseLeaves.{base_leaves};
-ghost use Rattle.air_symbolic.specs.Pools.{size};
 ghost use Rattle.air_symbolic.specs.Reach.{Marked};
+ghost use Rattle.air_print.specs.Lines.{lines_text};
 ghost use Rattle.air_print.specs.Names.{AreNames};
 ghost use Rattle.air_print.specs.Rows.{trace_of};
 ghost use Rattle.air_print.specs.Values.{AreClosed};
@@ -13,20 +13,17 @@ ghost use Rattle.air_report.specs.FailureTexts.{seen_failure};
 ghost use Rattle.air_object.specs.Parts.{InPool};
 ghost use Rattle.air_program.specs.AtHand.{KnownAt};
 ghost use Rattle.air_program.specs.ByField.{AnswersParts};
-ghost use Rattle.air_program.specs.Explained.{failing_roots, cell_lines, PushesNames, PushesExplained, trace_with, IsExplainedText, TellsExplained, ExplainedIn};
-ghost use Rattle.air_program.specs.FlatAnswer.{AuditRefusesInput};
-ghost use Rattle.air_program.specs.Refusals.{air_refusal, GivesAnswer};
-ghost use Rattle.air_program.specs.Texts.{found_in, findings_status};
-ghost use Rattle.air_print.specs.Lines.{lines_text};
-ghost use Rattle.air_core.specs.declared.errors.AirError.{AirError};
+ghost use Rattle.air_program.specs.Explained.{failing_roots, cell_lines, PushesNames, PushesExplained, ExplainsInput, ExplainedIn};
+ghost use Rattle.air_program.specs.FlatAnswer.{input_of};
+ghost use Rattle.air_program.specs.Refusals.{GivesAnswer};
 
-use crate::answer::{findings_of, status};
-use crate::flat::with_table;
+use crate::answer::status;
+use crate::flat::{Audited, audit_object};
 use crate::refusals::Refusal;
-use crate::texts::{Findings, push_counts, push_failure};
+use crate::texts::{Answer, push_counts, push_failure};
 use air_audit::{ConstraintFailure, FlatAir};
-use air_field::{PrimeField64, RowMajorMatrix};
-use air_object::{BaseId, BasePool, FlatInput, Parts, input_from};
+use air_field::PrimeField64;
+use air_object::{BaseId, BasePool, Parts};
 use air_print::{
     Names, TraceRows, push_cell, push_explained, push_reached_definitions, reads, values_at,
 };
@@ -94,9 +91,10 @@ fn push_cell_below<F: PrimeField64>(
     requires { length air.now.roots.items ≤ failure.now.constraint }
     ensures { OnOk result (string_bytes text.new ≡ string_bytes text.old ++ lines_text
         (cell_lines F.residues (row_assignment F.ring (trace_of trace.now) failure.now.row)
-        (slice_get air.now.cells.items (failure.now.constraint - length air.now.roots.items)))) }
+        (slice_get air.now.beside.cells.items
+        (failure.now.constraint - length air.now.roots.items)))) }
 {
-    match air.cells.get(failure.constraint - air.roots.len()) {
+    match air.beside.cells.get(failure.constraint - air.roots.len()) {
         Some(cell) => push_cell(text, trace, failure.row, cell.column, cell.public_value),
         None => Ok(()),
     }
@@ -118,7 +116,7 @@ fn push_explained_failure<F: PrimeField64>(
     requires known { IfSome at_hand
         (KnownAt F.ring (trace_of trace.now) air.now.pool.nodes marks.now) }
     ensures pushes { OnOk result (PushesExplained F.residues air.now.pool air.now.roots.items
-        air.now.cells.items (trace_of trace.now) names.now.1 (seen_failure failure.now ∷ [])
+        air.now.beside.cells.items (trace_of trace.now) names.now.1 (seen_failure failure.now ∷ [])
         (string_bytes text.old) (string_bytes text.new)) }
     ensures known { IfOk result (λ at. IfSome at
         (KnownAt F.ring (trace_of trace.now) air.now.pool.nodes marks.now)) }
@@ -147,7 +145,7 @@ fn push_failures<F: PrimeField64>(
     failures: &[ConstraintFailure],
 ) -> Result<(), AllocError>
     ensures { OnOk result (PushesExplained F.residues air.now.pool air.now.roots.items
-        air.now.cells.items (trace_of trace.now) names.now.1 (map seen_failure failures.now)
+        air.now.beside.cells.items (trace_of trace.now) names.now.1 (map seen_failure failures.now)
         (string_bytes text.old) (string_bytes text.new)) }
 {
     let Ok(marks) = reached_nodes(alloc, &air.pool, &air.roots) else {
@@ -179,95 +177,40 @@ fn push_names<F: PrimeField64>(
     push_reached_definitions(alloc, text, &air.pool, names, &marks)
 }
 
-// The lines of the findings, explained.
+// The lines of the audit's findings, explained.
 fn explained_text<F: PrimeField64>(
     alloc: Global,
-    air: &FlatAir<F>,
-    trace: &TraceRows<'_, F>,
-    findings: &Findings,
+    audited: &Audited<F>,
 ) -> Result<String, AllocError>
-    ensures { IfOk result (λ text. IsExplainedText F.residues air.now.pool air.now.roots.items
-        air.now.cells.items (trace_of trace.now) (found_in findings.now) (string_bytes text)) }
+    ensures { IfOk result (λ text. ExplainsInput F.residues
+        (input_of audited.now.air audited.now.trial) audited.now.audit (string_bytes text)) }
 {
-    let failures = &findings.report.failures;
+    let Audited { air, trial, audit } = audited;
+    let trace = TraceRows {
+        main: &trial.main,
+        preprocessed: &air.beside.preprocessed,
+        periodic: &air.beside.periodic,
+        public_values: &trial.public_values,
+    };
+    let failures = &audit.report.failures;
     let names = Names::of(alloc, &air.pool, &air.roots)?;
     let mut text = String::new(alloc);
-    push_counts(&mut text, findings)?;
+    push_counts(&mut text, audit)?;
     push_names(alloc, &mut text, air, &names, failures)?;
-    push_failures(alloc, &mut text, air, &names, trace, failures)?;
+    push_failures(alloc, &mut text, air, &names, &trace, failures)?;
     Ok(text)
 }
 
-/// The status and the text of the findings, explained.
-fn explain_findings<F: PrimeField64>(
-    alloc: Global,
-    air: &FlatAir<F>,
-    main: &RowMajorMatrix<F>,
-    public_values: &[F],
-    findings: &Findings,
-) -> Result<(u8, String), Refusal>
-    ensures status { IfOk result (λ p. p.0 ≡ findings_status (found_in findings.now)) }
-    ensures text { IfOk result (λ p. IsExplainedText F.residues air.now.pool air.now.roots.items
-        air.now.cells.items (trace_with main.now air.now.preprocessed air.now.periodic.items
-        public_values.now) (found_in findings.now) (string_bytes p.1)) }
-    ensures refused { IfErr result (λ why. why ≡ Refusal.Memory) }
-{
-    let trace = TraceRows {
-        main,
-        preprocessed: &air.preprocessed,
-        periodic: &air.periodic,
-        public_values,
-    };
-    match explained_text(alloc, air, &trace, findings) {
-        Ok(text) => Ok((status(findings), text)),
-        Err(_) => Err(Refusal::Memory),
-    }
-}
-
-// Audits the input, and explains its failures.
-fn explain_input<F: PrimeField64 + 'static>(
-    alloc: Global,
-    input: FlatInput<F>,
-) -> Result<(u8, String), Refusal>
-    requires roots { All (λ i. i < size input.pool) input.roots.items }
-    ensures ok { IfOk result (λ p. TellsExplained F.residues input p.0 (string_bytes p.1)) }
-    ensures refused { IfErr result (λ why. (why ≡ Refusal.Memory) ⊎ ((e : AirError)
-        × AuditRefusesInput F.residues input e × (why ≡ air_refusal e))) }
-{
-    let air = FlatAir::new(
-        input.pool,
-        input.roots,
-        input.main.width(),
-        input.public_values.len(),
-        input.periodic,
-        input.cells,
-    )?;
-    let air = with_table(air, input.preprocessed);
-    let air = air.with_labels(input.labels);
-    let findings = findings_of(
-        alloc,
-        &air,
-        &input.main,
-        &input.public_values,
-        input.cap,
-        input.transition_weight,
-    )?;
-    explain_findings(alloc, &air, &input.main, &input.public_values, &findings)
-}
-
-/// The status and the text of such an audit's findings, explained, for an object over F with these parts.
+/// The answer that explains each failure of an audit of an object over F with these parts.
 pub(crate) fn explain_parts<F: PrimeField64 + 'static>(
     alloc: Global,
     parts: Parts<F>,
-) -> Result<(u8, String), Refusal>
+) -> Result<Answer, Refusal>
     requires { InPool parts.constraints }
     ensures { GivesAnswer (AnswersParts ExplainedIn F.residues parts) result }
 {
-    let Parts {
-        rest,
-        main,
-        constraints,
-    } = parts;
-    let input = input_from(alloc, &rest, main, constraints)?;
-    explain_input(alloc, input)
+    let audited = audit_object(alloc, parts)?;
+    let text = explained_text(alloc, &audited)?;
+    let status = status(&audited.audit);
+    Ok(Answer { status, text })
 }

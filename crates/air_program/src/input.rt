@@ -4,4 +4,4 @@ mod number;
 mod parser;
 mod pieces;
 
-pub use parser::{Input, ParseFault, parse};
+pub use parser::{Input, parse};

@@ -10,6 +10,7 @@ ghost use Rattle.air_program.specs.Outcome.{IsOutcome};
 use crate::answer::answer;
 use crate::commands::request_of;
 use crate::refusals::Refusal;
+use crate::texts::Answer;
 use air_streams::{ReadFault, Sink, Source, StreamFault, read_all, write_all};
 use std::alloc::Global;
 
@@ -54,7 +55,7 @@ pub fn run<R: Source, W: Sink>(
         Err(ReadFault::Memory) => return refuse(writer, Refusal::Memory),
     };
     match answer(alloc, request, &input) {
-        Ok((status, text)) => {
+        Ok(Answer { status, text }) => {
             write_all(writer, text.as_bytes())?;
             Ok(status)
         }

@@ -4,6 +4,7 @@ ghost use Rattle.std.specs.Prelude.{◌≡◌};
 ghost use Rattle.air_program.specs.Refusals.{name_of, air_name, air_refusal};
 
 use air_builder::AirError;
+use std::alloc::{AllocError, AllocFailed};
 
 /// Why there is no answer.
 #[derive(Clone, Copy, Debug, PartialEq, Eq, Drop)]
@@ -48,6 +49,26 @@ impl From<AirError> for Refusal {
     }
 }
 
+impl From<AllocError> for Refusal {
+    ghost use Rattle.air_program.specs.declared.refusals.Refusal.TheVariants.{Memory};
+
+    ghost from_gives = { λ _ why. why ≡ Memory };
+
+    fn from(_refused: AllocError) -> Refusal {
+        Refusal::Memory
+    }
+}
+
+impl<T: Drop> From<AllocFailed<T>> for Refusal {
+    ghost use Rattle.air_program.specs.declared.refusals.Refusal.TheVariants.{Memory};
+
+    ghost from_gives = { λ _ why. why ≡ Memory };
+
+    fn from(_refused: AllocFailed<T>) -> Refusal {
+        Refusal::Memory
+    }
+}
+
 /// The name of the error's variant.
 fn air_name(error: AirError) -> &'static str
     ensures { result.now ≡ air_name error }
@@ -66,6 +87,7 @@ fn air_name(error: AirError) -> &'static str
         AirError::ForeignExpression => "ForeignExpression",
         AirError::IndexPastTotal { .. } => "IndexPastTotal",
         AirError::PreprocessedHeight { .. } => "PreprocessedHeight",
+        AirError::PermutationHeight { .. } => "PermutationHeight",
         AirError::PeriodNotPowerOfTwo { .. } => "PeriodNotPowerOfTwo",
         AirError::PeriodDoesNotDivide { .. } => "PeriodDoesNotDivide",
         AirError::Boundary(_) => "Boundary",

@@ -1,4 +1,4 @@
-//! The text of an audit's findings.
+//! Answers, and the text of what an audit found.
 
 ghost use Rattle.std.specs.Prelude.{◌≡◌, ◌++◌, OnOk, IfOk, IfSome, option_map, string_bytes};
 ghost use Rattle.air_report.specs.FailureTexts.{label_suffix, seen_failure};
@@ -6,26 +6,30 @@ ghost use Rattle.air_print.specs.Labels.{HasNoLineEnd};
 ghost use Rattle.air_program.specs.Texts.{count_lines, found_in, PushesLine, IsFindingsText};
 ghost use Rattle.air_print.specs.Lines.{lines_text};
 
-use air_audit::{ConstraintFailure, ConstraintReport};
+use air_audit::{Audit, ConstraintFailure};
+use air_field::PrimeField64;
 use air_print::shown_label;
 use std::alloc::{AllocError, Global};
 
-/// The findings of an audit.
+/// The exit status, and the text that is printed.
 #[derive(Drop)]
-pub struct Findings {
-    pub degree: usize,
-    pub report: ConstraintReport,
+pub struct Answer {
+    pub status: u8,
+    pub text: String,
 }
 
 /// Appends the lines of the three counts.
 #[tactic(auto, unfolding(crate::specs::Texts::count_lines))]
-pub(crate) fn push_counts(text: &mut String, findings: &Findings) -> Result<(), AllocError>
+pub(crate) fn push_counts<F: PrimeField64>(
+    text: &mut String,
+    audit: &Audit<F>,
+) -> Result<(), AllocError>
     ensures { OnOk result (string_bytes text.new ≡ string_bytes text.old ++ lines_text
-        (count_lines (found_in findings.now))) }
+        (count_lines (found_in audit.now))) }
 {
-    let degree = findings.degree;
-    let rows = findings.report.total_rows;
-    let constraints = findings.report.total_constraints_per_row;
+    let degree = audit.degree;
+    let rows = audit.report.total_rows;
+    let constraints = audit.report.total_constraints_per_row;
     writeln!(text, "degree {degree}")?;
     writeln!(text, "rows {rows}")?;
     writeln!(text, "constraints {constraints}")
@@ -60,12 +64,12 @@ pub(crate) fn push_failure(
 }
 
 /// A line for each count and for each failure.
-pub fn findings_text(alloc: Global, findings: &Findings) -> Result<String, AllocError>
-    ensures { IfOk result (λ text. IsFindingsText (found_in findings.now) (string_bytes text)) }
+pub fn findings_text<F: PrimeField64>(alloc: Global, audit: &Audit<F>) -> Result<String, AllocError>
+    ensures { IfOk result (λ text. IsFindingsText (found_in audit.now) (string_bytes text)) }
 {
     let mut text = String::new(alloc);
-    push_counts(&mut text, findings)?;
-    for failure in &findings.report.failures {
+    push_counts(&mut text, audit)?;
+    for failure in &audit.report.failures {
         push_failure(alloc, &mut text, failure)?;
     }
     Ok(text)

@@ -1,33 +1,12 @@
 -- The inferred degree bounds the degrees of terms, and is the least bound; for weight 0 the latter holds for three rows or
 -- more.
 use Rattle.std.proofs.Common.{◌≡◌, ℕ, zero, suc, ◌+◌, ◌-◌, ◌*◌, add-mul, ◌<◌, ◌≤◌, ◌^◌, min, max, List, [], ◌∷◌, sym, subst, arith, ⊎_elim}
-use Rattle.std.proofs.Math.Nat.{max-eq_left, max-eq_right, max-le, le-max_left, le-max_right, lt_of_mul-lt-mul_right, mul-le-mul_right, suc-mul, div_self}
+use Rattle.std.proofs.Math.Nat.{max-eq_left, max-eq_right, max-le, le-max_left, le-max_right, mul-le-mul_right, suc-mul, div_self}
 use Rattle.std.proofs.lemmas.Bool.{cases_lt}
-use Rattle.std.proofs.lemmas.Grind.{div_ceil_times}
-use Rattle.std.specs.Int.{div_ceil}
+use Rattle.air_recording.specs.laws.Bounds.{quotient_reaches, quotient_least}
 use Rattle.air_field.specs.Term.{Leaf, preprocessed, main, periodic, public, first_row, last_row, transition, permutation, challenge, permutation_value, Term, leaf_term, const_term, ext_const_term, add_term, sub_term, neg_term, mul_term}
 use Rattle.air_recording.specs.Bounds.{bound_of, DegreesWithin, IsTraceDegree, IsGreatestDegree}
 use Rattle.air_field.specs.Degree.{degree_by, cached_weight, trace_weight, periodic_degree, greatest_degree, quotient_degree, inferred_degree}
-
-quotient_of : (k n : ℕ) → quotient_degree (suc k) n ≡ div_ceil k (max (n - 1) 1)
-quotient_of k n = Prim.grind arith
-
--- the quotient degree d of p satisfies p ≤ d (n - 1) + 1
-quotient_reaches : (p n : ℕ) → 2 ≤ n → p ≤ quotient_degree p n * (n - 1) + 1
-quotient_reaches zero n h = omega arith
-quotient_reaches (suc k) n h =
-    let m : max (n - 1) 1 ≡ n - 1 = max-eq_left (omega (arith, h)) in
-    let b = div_ceil_times k (n - 1) (omega (arith, h)) in
-    subst (λ x. suc k ≤ x * (n - 1) + 1) (sym (quotient_of k n)) (subst (λ x. suc k ≤ div_ceil k x * (n - 1) + 1) (sym m) (omega (arith, b.0)))
-
--- no smaller number satisfies it
-quotient_least : (p n e : ℕ) → 2 ≤ n → p ≤ e * (n - 1) + 1 → quotient_degree p n ≤ e
-quotient_least zero n e h b = omega arith
-quotient_least (suc k) n e h b =
-    let m : max (n - 1) 1 ≡ n - 1 = max-eq_left (omega (arith, h)) in
-    let c = div_ceil_times k (n - 1) (omega (arith, h)) in
-    let lt : div_ceil k (n - 1) < suc e = lt_of_mul-lt-mul_right (n - 1) (omega (arith, c.1, b, suc-mul e (n - 1))) in
-    subst (λ x. x ≤ e) (sym (quotient_of k n)) (subst (λ x. div_ceil k x ≤ e) (sym m) (omega (arith, lt)))
 
 greater_of : (P : ℕ → Type 0) (a b : ℕ) → P a → P b → P (max a b)
 greater_of P a b x y =
@@ -74,26 +53,39 @@ module _ (n : ℕ) (some : 1 ≤ n) where
   greatest_within [] = omega arith
   greatest_within (t ∷ ts) = greater_within (degree_by cached_weight t) (greatest_degree cached_weight ts) (degree_by (trace_weight n []) t) (greatest_degree (trace_weight n []) ts) (cached_within t) (greatest_within ts)
 
+greater : (p a b m : ℕ) → p ≤ a * m + 1 → a ≤ b → p ≤ b * m + 1
+greater p a b m h le = omega (arith, h, mul-le-mul_right {m = a} {n = b} m le)
+
+-- from two rows on the divisor is n - 1
+by_rows : (n e p : ℕ) → 3 ≤ n → p ≤ e * (n - 1) + 1 → p ≤ e * max (n - 1) 1 + 1
+by_rows n e p h b =
+    let rows : max (n - 1) 1 ≡ n - 1 = max-eq_left (omega (arith, h)) in
+    subst (λ m. p ≤ e * m + 1) (sym rows) b
+
 -- The inferred degree is a bound.
 pub inferred_bounds : {F : Type 0} (n : ℕ) (periods : List ℕ) (ts : List (Term F)) → 2 ≤ n → greatest_degree (trace_weight n periods) ts ≤ inferred_degree n periods ts * (n - 1) + 1
-inferred_bounds n [] ts h =
-    let p = greatest_degree (trace_weight n []) ts in
-    let c = greatest_degree cached_weight ts in
-    let q = quotient_degree p n in
-    omega (arith, quotient_reaches p n h, mul-le-mul_right (n - 1) (le-max_left q c))
-inferred_bounds n (x ∷ periods) ts h = quotient_reaches (greatest_degree (trace_weight n (x ∷ periods)) ts) n h
+inferred_bounds n periods ts h =
+    let rows : max (n - 1) 1 ≡ n - 1 = max-eq_left (omega (arith, h)) in
+    subst (λ m. greatest_degree (trace_weight n periods) ts ≤ inferred_degree n periods ts * m + 1) rows (reached n periods ts)
+  where
+    reached : {F : Type 0} (n : ℕ) (periods : List ℕ) (ts : List (Term F)) → greatest_degree (trace_weight n periods) ts ≤ inferred_degree n periods ts * max (n - 1) 1 + 1
+    reached n [] ts =
+        let p = greatest_degree (trace_weight n []) ts in
+        let q = quotient_degree p n in
+        greater p q (max q (greatest_degree cached_weight ts)) (max (n - 1) 1) (quotient_reaches p n) (le-max_left q (greatest_degree cached_weight ts))
+    reached n (x ∷ periods) ts = quotient_reaches (greatest_degree (trace_weight n (x ∷ periods)) ts) n
 
 -- For three rows or more it is the least bound.
 pub inferred_least : {F : Type 0} (n : ℕ) (periods : List ℕ) (ts : List (Term F)) (e : ℕ) → 3 ≤ n → greatest_degree (trace_weight n periods) ts ≤ e * (n - 1) + 1 → inferred_degree n periods ts ≤ e
 inferred_least n [] ts e h b =
     let p = greatest_degree (trace_weight n []) ts in
     let c = greatest_degree cached_weight ts in
-    max-le (quotient_least p n e (omega (arith, h)) b)
+    max-le (quotient_least p n e (by_rows n e p h b))
     (⊎_elim
     (λ (over : e < c). absurd (omega (arith, over, h, b, greatest_within n (omega (arith, h)) ts, suc-mul e (n - 1), mul-le-mul_right {m = suc e} {n = c} (n - 1) (omega (arith, over)))))
     (λ (within : c ≤ e). within)
     (cases_lt e c))
-inferred_least n (x ∷ periods) ts e h b = quotient_least (greatest_degree (trace_weight n (x ∷ periods)) ts) n e (omega (arith, h)) b
+inferred_least n (x ∷ periods) ts e h b = let p = greatest_degree (trace_weight n (x ∷ periods)) ts in quotient_least p n e (by_rows n e p h b)
 
 -- the greatest degree bounds each, and is the least that does
 pub each_within : {F : Type 0} (w : Leaf → ℕ) (n : ℕ) (ts : List (Term F)) → greatest_degree w ts ≤ n → DegreesWithin w n ts
@@ -105,18 +97,18 @@ pub greatest_within_all : {F : Type 0} (w : Leaf → ℕ) (n : ℕ) (ts : List (
 greatest_within_all w n [] h = omega arith
 greatest_within_all w n (t ∷ ts) h = max-le (h 0 t (omega arith)) (greatest_within_all w n ts (λ k d b. h (suc k) d (omega arith)))
 
--- The inferred degree of terms whose degrees fit is the degree for them over a trace.
-pub degree_for : {F : Type 0} (n : ℕ) (periods : List ℕ) (ts : List (Term F)) (d : ℕ) → d ≡ inferred_degree n periods ts → greatest_degree (trace_weight n periods) ts < 2 ^ 64 → IsTraceDegree n periods ts d
+-- The inferred degree, if it fits, is the degree for the terms over a trace.
+pub degree_for : {F : Type 0} (n : ℕ) (periods : List ℕ) (ts : List (Term F)) (d : ℕ) → d ≡ inferred_degree n periods ts → d < 2 ^ 64 → IsTraceDegree n periods ts d
 degree_for n periods ts d value fits =
     let w = trace_weight n periods in
     record {
       value = value;
-      fits = fits;
+      fits = subst (λ e. e < 2 ^ 64) value fits;
       within = λ h. each_within w (bound_of d n) ts (subst (λ e. greatest_degree w ts ≤ bound_of e n) (sym value) (inferred_bounds n periods ts h));
       least = λ h e within. subst (λ k. k ≤ e) (sym value) (inferred_least n periods ts e h (greatest_within_all w (bound_of e n) ts within));
     }
 
--- The greatest degree of terms whose degrees fit is a bound, and the least one.
+-- The greatest degree, if it fits, is a bound, and the least one.
 pub greatest_for : {F : Type 0} (w : Leaf → ℕ) (ts : List (Term F)) (d : ℕ) → d ≡ greatest_degree w ts → greatest_degree w ts < 2 ^ 64 → IsGreatestDegree w ts d
 greatest_for w ts d value fits = record {
   value = value;

@@ -24,11 +24,11 @@ LeavesWithin r w s = (l : Leaf) → HasDegreeAtMost r (λ n. slice_index_or (s l
 abbrev pub PolynomialsWithin : {F E : Type 0} → AlgebraOver F E → (Leaf → ℕ) → ℕ → List (Term F) → Type 0
 PolynomialsWithin {E = E} a w bound ts = (s : Leaf → List E) → LeavesWithin a.ring w s → All (λ t. HasDegreeAtMost a.ring (polynomial a s t) bound) ts
 
--- The weights by which a domain counts degrees over n rows: for weight 0 the degrees of the leaves' polynomials; for a
--- weight from 1 the cached ones, with it for the transition selector, whatever the rows and the periods are.
-abbrev pub domain_weight : ℕ → ℕ → List ℕ → Leaf → ℕ
-domain_weight zero n periods = trace_weight n periods
-domain_weight (suc w) n periods = transition_weight (suc w)
+-- The degree inferred for n rows of these terms, in a domain of this weight for the transition selector: for weight 0 that
+-- of the greatest polynomial; for a weight from 1 the greatest degree by the cached weights with it, whatever n is.
+abbrev pub domain_degree : {F : Type 0} → ℕ → ℕ → List ℕ → List (Term F) → ℕ
+domain_degree zero n periods ts = inferred_degree n periods ts
+domain_degree (suc w) n periods ts = greatest_degree (transition_weight (suc w)) ts
 
 -- The greatest degree over n rows that a leaf's polynomial has in the domain: for weight 0 its degree over a trace; for a
 -- weight from 1 n - 1 times its weight.
@@ -42,11 +42,11 @@ abbrev pub polynomial_bound : ℕ → ℕ → ℕ → ℕ
 polynomial_bound zero d n = bound_of d n
 polynomial_bound (suc w) d n = d * (n - 1)
 
--- d is the degree inferred for n rows of these terms, none of whose degrees exceeds `usize`. For two rows or more it bounds
--- their degrees; for three or more it is the least such bound.
+-- d is the degree inferred for n rows of these terms, and fits `usize`. For two rows or more it bounds their degrees; for
+-- three or more it is the least such bound.
 pub record IsTraceDegree {F : Type 0} (n : ℕ) (periods : List ℕ) (ts : List (Term F)) (d : ℕ) : Type 0 where
   pub value : d ≡ inferred_degree n periods ts
-  pub fits : greatest_degree (trace_weight n periods) ts < 2 ^ 64
+  pub fits : inferred_degree n periods ts < 2 ^ 64
   pub within : 2 ≤ n → DegreesWithin (trace_weight n periods) (bound_of d n) ts
   pub least : 3 ≤ n → (e : ℕ) → DegreesWithin (trace_weight n periods) (bound_of e n) ts → d ≤ e
 

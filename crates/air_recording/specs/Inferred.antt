@@ -2,17 +2,15 @@
 use Rattle.std.specs.Prelude.{Result, Ok, Err, ◌≡◌, ◌⊎◌, ℕ, ◌≤◌, ◌^◌, max, List, [], ◌∷◌, ◌++◌, Vec, length, map, ⊤}
 use Rattle.air_field.specs.Ring.{CommRing, AlgebraOver, self_algebra}
 use Rattle.air_field.specs.Extension.{Basis}
-use Rattle.air_field.specs.Term.{Leaf, Term}
-use Rattle.air_field.specs.Degree.{greatest_degree}
+use Rattle.air_field.specs.Term.{Term}
 use Rattle.air_field.specs.declared.errors.RingError.{RingError}
 use Rattle.air_field.specs.declared.errors.RingError.TheVariants.{Memory, DegreeOverflow}
-use Rattle.air_builder.specs.Assertion.{Assertion}
 use Rattle.air_builder.specs.Declaration.{Declaration}
 use Rattle.air_core.specs.declared.errors.AirError.{AirError}
 use Rattle.air_core.specs.declared.errors.AirError.TheVariants as air
 use Rattle.air_symbolic.specs.BaseLeaves.{base_reads}
 use Rattle.air_symbolic.specs.ExtLeaves.{ext_reads}
-use Rattle.air_recording.specs.Bounds.{domain_weight, leaf_degree, polynomial_bound, PolynomialsWithin, IsDegreeFor}
+use Rattle.air_recording.specs.Bounds.{domain_degree, leaf_degree, polynomial_bound, PolynomialsWithin, IsDegreeFor}
 use Rattle.air_recording.specs.Kinds.{base_terms, ext_terms}
 use Rattle.air_recording.specs.declared.layouts.air_layout.AirLayout.{AirLayout}
 use Rattle.air_recording.specs.Recorded.{EachRecords, RecordRefuses, RecordingAnswers, terms_of}
@@ -46,25 +44,22 @@ pub record IsInferred {F E : Type 0} (r : CommRing F) (over : AlgebraOver F E) (
       (leaf_degree w n (periods_of d.periodic)) (polynomial_bound w degree n) base
   pub bounded : 2 ≤ n → PolynomialsWithin over (leaf_degree w n (periods_of d.periodic)) (polynomial_bound w degree n) (base ++ ext)
 
--- the answer is the degree for n rows of these terms, in a domain of weight w; an error is `DegreeOverflow`, if their
--- greatest degree, as the domain counts, exceeds `usize`, or `Memory`
+-- the answer is the degree for n rows of these terms, in a domain of weight w; an error is `DegreeOverflow`, if this
+-- degree exceeds `usize`, or `Memory`
 abbrev pub AnswersInferred : {F : Type 0} → ℕ → ℕ → List ℕ → List (Term F) → Result ℕ RingError → Type 0
 AnswersInferred w n periods us (Ok d) = IsDegreeFor w n periods us d
 AnswersInferred w n periods us (Err Memory) = ⊤
-AnswersInferred w n periods us (Err DegreeOverflow) = 2 ^ 64 ≤ greatest_degree (domain_weight w n periods) us
+AnswersInferred w n periods us (Err DegreeOverflow) = 2 ^ 64 ≤ domain_degree w n periods us
 
--- for some terms that record the declared ones, the greatest degree by these weights exceeds `usize`
-pub record IsDegreeOver {F E : Type 0} (r : CommRing F) (over : AlgebraOver F E) (weights : Leaf → ℕ) (ts : List (Assertion F)) : Type 0 where
+-- the degree for n rows of some terms that record the declared ones, in a domain of weight w, exceeds `usize`
+pub record IsDegreeOver {F E : Type 0} (r : CommRing F) (over : AlgebraOver F E) (w n : ℕ) (d : Declaration F) : Type 0 where
   pub base : List (Term F)
   pub ext : List (Term F)
-  pub base_recorded : EachRecords (self_algebra r) base (base_terms ts)
-  pub ext_recorded : EachRecords over ext (ext_terms ts)
-  pub past : 2 ^ 64 ≤ greatest_degree weights (base ++ ext)
+  pub base_recorded : EachRecords (self_algebra r) base (base_terms d.constraints)
+  pub ext_recorded : EachRecords over ext (ext_terms d.constraints)
+  pub past : 2 ^ 64 ≤ domain_degree w n (periods_of d.periodic) (base ++ ext)
 
--- The errors of the recording and, if the recording answers, `DegreeOverflow` for a recorded degree past `usize`, as a
--- domain of weight w counts degrees over n rows.
+-- The errors of the recording and, if the recording answers, `DegreeOverflow` for a degree past `usize`.
 abbrev pub DegreeRefuses : {F E : Type 0} → CommRing F → AlgebraOver F E → ℕ → ℕ → AirLayout → Declaration F → AirError → Type 0
 DegreeRefuses r over w n layout d e =
-    RecordRefuses layout d e
-    ⊎ (RecordingAnswers r over layout d
-    × ((e ≡ air.DegreeOverflow) × IsDegreeOver r over (domain_weight w n (periods_of d.periodic)) d.constraints))
+    RecordRefuses layout d e ⊎ (RecordingAnswers r over layout d × ((e ≡ air.DegreeOverflow) × IsDegreeOver r over w n d))

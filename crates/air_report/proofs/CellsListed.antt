@@ -1,4 +1,4 @@
--- The list of differing boundary values grows by one at a time.
+-- The list of violated boundary values grows by one at a time.
 use Rattle.std.proofs.Common.{◌≡◌, ℕ, suc, ◌+◌, ◌-◌, ◌<◌, ◌≤◌, ◌^◌, min, List, [], ◌∷◌, ◌++◌, map, length, take, drop, get_or, Bool, true, false, cond, Option, None, Some, slice_get, refl, sym, ap, ◌∙◌, subst, arith, append_assoc, length-append}
 use Rattle.std.specs.List.{filter, enumerate_from}
 use Rattle.std.proofs.lemmas.List.{map-append, take_more, take_all, length-take, length-map, take-append-le, take-append-drop, append-nil}
@@ -7,7 +7,7 @@ use Rattle.std.proofs.Math.Seq.{take-append-add}
 use Rattle.air_field.specs.Ring.{CommRing}
 use Rattle.air_field.specs.Grid.{Grid}
 use Rattle.air_core.specs.declared.boundary.BoundaryPublic.{BoundaryPublic}
-use Rattle.air_report.specs.Cells.{differs, differing_cells, take_within_cap, cell_place, cell_label, label_text, ListsCells, IsListedPast}
+use Rattle.air_report.specs.Cells.{is_violated, violated_cells, take_within_cap, cell_place, cell_label, label_text, ListsCells, IsListedPast}
 use Rattle.air_report.specs.Report.{failure_place, IsReached}
 use Rattle.air_report.specs.laws.Debug.{enumerate_from-append}
 use Rattle.air_report.specs.declared.debug.failure.ConstraintFailure.{ConstraintFailure}
@@ -78,67 +78,67 @@ length-lists h count xs fs gs l =
     ap length l.failures ∙ (length-append fs l.more ∙ ap (λ n. length fs + n) (sym (length-map l.more failure_place) ∙ (ap length l.places ∙ length-map xs (cell_place h count))))
 
 module _ {F : Type 0} (r : CommRing F) (eq : F → F → Bool) (main : Grid F) (public : List F) where
-  differing-append : (xs ys : List BoundaryPublic) → differing_cells r eq main public (xs ++ ys) ≡ differing_cells r eq main public xs ++ filter (λ p. differs r eq main public p.1) (enumerate_from (length xs) ys)
-  differing-append xs ys =
-      let test : ℕ × BoundaryPublic → Bool = λ p. differs r eq main public p.1 in
+  violated-append : (xs ys : List BoundaryPublic) → violated_cells r eq main public (xs ++ ys) ≡ violated_cells r eq main public xs ++ filter (λ p. is_violated r eq main public p.1) (enumerate_from (length xs) ys)
+  violated-append xs ys =
+      let test : ℕ × BoundaryPublic → Bool = λ p. is_violated r eq main public p.1 in
       let e : 0 + length xs ≡ length xs = omega arith in
       ap (filter test) (enumerate_from-append 0 xs ys ∙ ap (λ n. enumerate_from 0 xs ++ enumerate_from n ys) e)
       ∙ filter-append test (enumerate_from 0 xs) (enumerate_from (length xs) ys)
 
-  differing-more : (cells : List BoundaryPublic) (i : ℕ) (d : BoundaryPublic) → i < length cells → differing_cells r eq main public (take (i + 1) cells) ≡ differing_cells r eq main public (take i cells) ++ cond (differs r eq main public (get_or cells i d)) ((i, get_or cells i d) ∷ []) []
-  differing-more cells i d lt =
-      let test : ℕ × BoundaryPublic → Bool = λ p. differs r eq main public p.1 in
+  violated-more : (cells : List BoundaryPublic) (i : ℕ) (d : BoundaryPublic) → i < length cells → violated_cells r eq main public (take (i + 1) cells) ≡ violated_cells r eq main public (take i cells) ++ cond (is_violated r eq main public (get_or cells i d)) ((i, get_or cells i d) ∷ []) []
+  violated-more cells i d lt =
+      let test : ℕ × BoundaryPublic → Bool = λ p. is_violated r eq main public p.1 in
       let e : length (take i cells) ≡ i = length-take i cells ∙ omega arith in
-      ap (differing_cells r eq main public) (take_more cells i d lt)
-      ∙ (differing-append (take i cells) (get_or cells i d ∷ [])
-      ∙ ap (λ n. differing_cells r eq main public (take i cells) ++ filter test (enumerate_from n (get_or cells i d ∷ []))) e)
+      ap (violated_cells r eq main public) (take_more cells i d lt)
+      ∙ (violated-append (take i cells) (get_or cells i d ∷ [])
+      ∙ ap (λ n. violated_cells r eq main public (take i cells) ++ filter test (enumerate_from n (get_or cells i d ∷ []))) e)
 
-  -- all differing boundary values, from the first i and the rest
-  differing-rest : (cells : List BoundaryPublic) (i : ℕ) → differing_cells r eq main public cells ≡ differing_cells r eq main public (take i cells) ++ filter (λ p. differs r eq main public p.1) (enumerate_from (length (take i cells)) (drop i cells))
-  differing-rest cells i = ap (differing_cells r eq main public) (sym (take-append-drop i cells)) ∙ differing-append (take i cells) (drop i cells)
+  -- all violated boundary values, from the first i and the rest
+  violated-rest : (cells : List BoundaryPublic) (i : ℕ) → violated_cells r eq main public cells ≡ violated_cells r eq main public (take i cells) ++ filter (λ p. is_violated r eq main public p.1) (enumerate_from (length (take i cells)) (drop i cells))
+  violated-rest cells i = ap (violated_cells r eq main public) (sym (take-append-drop i cells)) ∙ violated-append (take i cells) (drop i cells)
 
-  module _ (height count : ℕ) (cap : Option ℕ) (cells : List BoundaryPublic) (i : ℕ) (fs gs : List ConstraintFailure) (l : ListsCells height count (take_within_cap cap (length fs) (differing_cells r eq main public (take i cells))) fs gs) where
-    -- a boundary value that doesn't differ adds nothing
-    pub lists_same : (d : BoundaryPublic) → i < length cells → differs r eq main public (get_or cells i d) ≡ false → ListsCells height count (take_within_cap cap (length fs) (differing_cells r eq main public (take (i + 1) cells))) fs gs
+  module _ (height count : ℕ) (cap : Option ℕ) (cells : List BoundaryPublic) (i : ℕ) (fs gs : List ConstraintFailure) (l : ListsCells height count (take_within_cap cap (length fs) (violated_cells r eq main public (take i cells))) fs gs) where
+    -- a boundary value that holds adds nothing
+    pub lists_same : (d : BoundaryPublic) → i < length cells → is_violated r eq main public (get_or cells i d) ≡ false → ListsCells height count (take_within_cap cap (length fs) (violated_cells r eq main public (take (i + 1) cells))) fs gs
     lists_same d lt e =
-        let same : differing_cells r eq main public (take (i + 1) cells) ≡ differing_cells r eq main public (take i cells) =
-        differing-more cells i d lt ∙ (ap (λ b. differing_cells r eq main public (take i cells) ++ cond b ((i, get_or cells i d) ∷ []) []) e ∙ append-nil (differing_cells r eq main public (take i cells))) in
+        let same : violated_cells r eq main public (take (i + 1) cells) ≡ violated_cells r eq main public (take i cells) =
+        violated-more cells i d lt ∙ (ap (λ b. violated_cells r eq main public (take i cells) ++ cond b ((i, get_or cells i d) ∷ []) []) e ∙ append-nil (violated_cells r eq main public (take i cells))) in
         subst (λ xs. ListsCells height count (take_within_cap cap (length fs) xs) fs gs) (sym same) l
 
-    open_cap : (IsReached cap (length gs) → ⊥) → IsReached cap (length fs + length (take_within_cap cap (length fs) (differing_cells r eq main public (take i cells)))) → ⊥
+    open_cap : (IsReached cap (length gs) → ⊥) → IsReached cap (length fs + length (take_within_cap cap (length fs) (violated_cells r eq main public (take i cells)))) → ⊥
     open_cap few h =
-        let e : length gs ≡ length fs + length (take_within_cap cap (length fs) (differing_cells r eq main public (take i cells))) = length-lists height count (take_within_cap cap (length fs) (differing_cells r eq main public (take i cells))) fs gs l in
+        let e : length gs ≡ length fs + length (take_within_cap cap (length fs) (violated_cells r eq main public (take i cells))) = length-lists height count (take_within_cap cap (length fs) (violated_cells r eq main public (take i cells))) fs gs l in
         few (subst (λ n. IsReached cap n) (sym e) h)
 
-    -- a boundary value that differs is listed, if the cap isn't reached
-    pub lists_new : (d : BoundaryPublic) (f : ConstraintFailure) (hs : List ConstraintFailure) → i < length cells → differs r eq main public (get_or cells i d) ≡ true → (IsReached cap (length gs) → ⊥) → hs ≡ gs ++ f ∷ [] → failure_place f ≡ cell_place height count (i, get_or cells i d) → label_text f ≡ Some (cell_label (get_or cells i d)) → ListsCells height count (take_within_cap cap (length fs) (differing_cells r eq main public (take (i + 1) cells))) fs hs
+    -- a violated boundary value is listed, if the cap isn't reached
+    pub lists_new : (d : BoundaryPublic) (f : ConstraintFailure) (hs : List ConstraintFailure) → i < length cells → is_violated r eq main public (get_or cells i d) ≡ true → (IsReached cap (length gs) → ⊥) → hs ≡ gs ++ f ∷ [] → failure_place f ≡ cell_place height count (i, get_or cells i d) → label_text f ≡ Some (cell_label (get_or cells i d)) → ListsCells height count (take_within_cap cap (length fs) (violated_cells r eq main public (take (i + 1) cells))) fs hs
     lists_new d f hs lt e few push place label =
-        let before = differing_cells r eq main public (take i cells) in
+        let before = violated_cells r eq main public (take i cells) in
         let cell : ℕ × BoundaryPublic = (i, get_or cells i d) in
-        let more : differing_cells r eq main public (take (i + 1) cells) ≡ before ++ cell ∷ [] =
-        differing-more cells i d lt ∙ ap (λ b. before ++ cond b (cell ∷ []) []) e in
+        let more : violated_cells r eq main public (take (i + 1) cells) ≡ before ++ cell ∷ [] =
+        violated-more cells i d lt ∙ ap (λ b. before ++ cond b (cell ∷ []) []) e in
         let all = ap (take_within_cap cap (length fs)) more ∙ left_of-more cap (length fs) before cell (open_cap few) in
         subst (λ xs. ListsCells height count xs fs hs) (sym all) (lists_one height count (take_within_cap cap (length fs) before) cell fs gs hs f l push place label)
 
     -- if the cap is reached, all that it leaves are listed
-    pub lists_full : IsReached cap (length gs) → ListsCells height count (take_within_cap cap (length fs) (differing_cells r eq main public cells)) fs gs
+    pub lists_full : IsReached cap (length gs) → ListsCells height count (take_within_cap cap (length fs) (violated_cells r eq main public cells)) fs gs
     lists_full full =
-        let before = differing_cells r eq main public (take i cells) in
+        let before = violated_cells r eq main public (take i cells) in
         let e : length gs ≡ length fs + length (take_within_cap cap (length fs) before) = length-lists height count (take_within_cap cap (length fs) before) fs gs l in
-        let all = ap (take_within_cap cap (length fs)) (differing-rest cells i) ∙ left_of-full cap (length fs) before _ (subst (λ n. IsReached cap n) e full) in
+        let all = ap (take_within_cap cap (length fs)) (violated-rest cells i) ∙ left_of-full cap (length fs) before _ (subst (λ n. IsReached cap n) e full) in
         subst (λ xs. ListsCells height count xs fs gs) (sym all) l
 
-    -- a boundary value that differs is among the listed ones, if the cap isn't reached
-    pub listed_past : (d : BoundaryPublic) → i < length cells → differs r eq main public (get_or cells i d) ≡ true → (IsReached cap (length gs) → ⊥) → 2 ^ 64 ≤ count + i → IsListedPast count (take_within_cap cap (length fs) (differing_cells r eq main public cells))
+    -- a violated boundary value is among the listed ones, if the cap isn't reached
+    pub listed_past : (d : BoundaryPublic) → i < length cells → is_violated r eq main public (get_or cells i d) ≡ true → (IsReached cap (length gs) → ⊥) → 2 ^ 64 ≤ count + i → IsListedPast count (take_within_cap cap (length fs) (violated_cells r eq main public cells))
     listed_past d lt e few past =
-        let before = differing_cells r eq main public (take i cells) in
+        let before = violated_cells r eq main public (take i cells) in
         let cell : ℕ × BoundaryPublic = (i, get_or cells i d) in
-        let test : ℕ × BoundaryPublic → Bool = λ p. differs r eq main public p.1 in
+        let test : ℕ × BoundaryPublic → Bool = λ p. is_violated r eq main public p.1 in
         let after = filter test (enumerate_from (length (take (i + 1) cells)) (drop (i + 1) cells)) in
-        let more : differing_cells r eq main public (take (i + 1) cells) ≡ before ++ cell ∷ [] =
-        differing-more cells i d lt ∙ ap (λ b. before ++ cond b (cell ∷ []) []) e in
-        let all : differing_cells r eq main public cells ≡ before ++ cell ∷ after =
-        differing-rest cells (i + 1) ∙ (ap (λ xs. xs ++ after) more ∙ append_assoc before (cell ∷ []) after) in
+        let more : violated_cells r eq main public (take (i + 1) cells) ≡ before ++ cell ∷ [] =
+        violated-more cells i d lt ∙ ap (λ b. before ++ cond b (cell ∷ []) []) e in
+        let all : violated_cells r eq main public cells ≡ before ++ cell ∷ after =
+        violated-rest cells (i + 1) ∙ (ap (λ xs. xs ++ after) more ∙ append_assoc before (cell ∷ []) after) in
         record {
           at = length before;
           cell = cell;

@@ -5,13 +5,15 @@ use Rattle.std.proofs.Common.{◌≡◌, ℕ, ◌⊎◌, inl, inr, List, map, le
 use Rattle.std.proofs.lemmas.List.{length-map}
 use Rattle.std.proofs.lemmas.Result.{err_from_is_err_and}
 use Rattle.air_field.specs.Ring.{CommRing}
+use Rattle.air_field.specs.Term.{Leaf}
+use Rattle.air_builder.specs.Assertion.{Assertion}
 use Rattle.air_core.specs.declared.boundary.BoundaryPublic.{BoundaryPublic}
 use Rattle.air_core.specs.declared.errors.AirError.{AirError}
 use Rattle.air_core.specs.declared.errors.AirError.TheVariants.{CountOverflow, Memory}
-use Rattle.air_report.specs.Cells.{differing_cells, take_within_cap, IsListedPast, CellsFit}
-use Rattle.air_report.specs.Checks.{CheckRefuses, Fits, RowsRan}
-use Rattle.air_report.specs.Instances.{Instance, instance_trace, row_count}
-use Rattle.air_report.specs.Report.{failure_place, report_of, constraints_counted}
+use Rattle.air_report.specs.Cells.{violated_cells, take_within_cap, IsListedPast, CellsFit}
+use Rattle.air_report.specs.ReportBy.{Fits, RowsRanBy, RefusesAfterShapesBy}
+use Rattle.air_report.specs.Instances.{Instance, row_count}
+use Rattle.air_report.specs.Report.{failure_place, report_by, constraints_counted}
 use Rattle.air_report.specs.Shapes.{ShapesFit, IsShapeFault, table_height}
 use Rattle.air_report.specs.declared.debug.failure.ConstraintFailure.{ConstraintFailure}
 
@@ -38,27 +40,25 @@ module _ {F : Type 0} (g : Instance F) {columns : List (Vec F Global)} {h : ℕ}
       (subst (λ o. IsShapeFault columns h o e) table fault))
 
 -- the errors of listing the boundary values
-pub cells_refused : {F : Type 0} (r : CommRing F) (eq : F → F → Bool) (g : Instance F) (cap : Option ℕ) (shown : ℕ)
-    (fs : List ConstraintFailure) (count : ℕ) (cells : List BoundaryPublic) (e : AirError)
-    → Fits g → RowsRan r eq g cap shown → CellsFit g.main g.public g.air.cells
-    → map failure_place fs ≡ report_of r eq (instance_trace g) g.air.constraints shown
+pub cells_refused : {F : Type 0} (r : CommRing F) (eq : F → F → Bool) (zero_at : ℕ → Assertion F → Bool) (missing : Leaf → Type 0)
+    (g : Instance F) (cap : Option ℕ) (shown : ℕ) (fs : List ConstraintFailure) (count : ℕ) (cells : List BoundaryPublic) (e : AirError)
+    → RowsRanBy zero_at missing g cap shown → CellsFit g.main g.public g.air.cells
+    → map failure_place fs ≡ report_by zero_at g.air.constraints shown
     → count ≡ constraints_counted g.air.constraints shown → cells ≡ g.air.cells
-    → (e ≡ Memory) ⊎ ((e ≡ CountOverflow) × IsListedPast count (take_within_cap cap (length fs) (differing_cells r eq g.main g.public cells)))
-    → CheckRefuses r eq g cap e
-cells_refused r eq g cap shown fs count cells e fits ran fit places counted same (inl m) = inr (fits, inl (inl m))
-cells_refused r eq g cap shown fs count cells e fits ran fit places counted same (inr o) =
-    let len : length fs ≡ length (report_of r eq (instance_trace g) g.air.constraints shown) = sym (length-map fs failure_place) ∙ ap length places in
-    inr (
-      fits,
-      inr (inr (
-        o.0,
-        record {
-          shown = shown;
-          ran = ran;
-          cells = fit;
-          past = subst (λ n. IsListedPast n (take_within_cap cap (length (report_of r eq (instance_trace g) g.air.constraints shown)) (differing_cells r eq g.main g.public g.air.cells))) counted
-              (subst (λ n. IsListedPast count (take_within_cap cap n (differing_cells r eq g.main g.public g.air.cells))) len
-              (subst (λ cs. IsListedPast count (take_within_cap cap (length fs) (differing_cells r eq g.main g.public cs))) same o.1));
-        },
-      )),
-    )
+    → (e ≡ Memory) ⊎ ((e ≡ CountOverflow) × IsListedPast count (take_within_cap cap (length fs) (violated_cells r eq g.main g.public cells)))
+    → RefusesAfterShapesBy r eq zero_at missing g cap e
+cells_refused r eq zero_at missing g cap shown fs count cells e ran fit places counted same (inl m) = inl (inl m)
+cells_refused r eq zero_at missing g cap shown fs count cells e ran fit places counted same (inr o) =
+    let len : length fs ≡ length (report_by zero_at g.air.constraints shown) = sym (length-map fs failure_place) ∙ ap length places in
+    let violated = violated_cells r eq g.main g.public in
+    inr (inr (
+      o.0,
+      record {
+        shown = shown;
+        ran = ran;
+        cells = fit;
+        past = subst (λ n. IsListedPast n (take_within_cap cap (length (report_by zero_at g.air.constraints shown)) (violated g.air.cells))) counted
+            (subst (λ n. IsListedPast count (take_within_cap cap n (violated g.air.cells))) len
+            (subst (λ cs. IsListedPast count (take_within_cap cap (length fs) (violated cs))) same o.1));
+      },
+    ))

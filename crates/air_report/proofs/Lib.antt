@@ -1,8 +1,10 @@
 pub mod Powers
 pub mod RowsAt
+pub mod RowsLabelled
 pub mod Reports
 pub mod CellsListed
 pub mod FailureLists
 pub mod OwnExtension
 pub mod EmptyLists
 pub mod GivenUp
+pub mod PermutedRowsAt

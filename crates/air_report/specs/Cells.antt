@@ -1,4 +1,4 @@
--- Boundary values of a trace: which of them differ from their public values, and how these are listed.
+-- Boundary values of a trace: which of them are violated, and how these are listed.
 use Rattle.std.specs.Prelude.{◌≡◌, ◌≢◌, ℕ, ◌+◌, ◌-◌, ◌<◌, ◌≤◌, ◌^◌, List, [], ◌++◌, length, map, take, Bool, true}
 use Rattle.std.specs.Prelude.{false, not, Option, None, Some, String, codes, decimal, string_bytes, slice_get}
 use Rattle.std.specs.Prelude.{slice_index_or, HoldsAt}
@@ -19,13 +19,13 @@ use Rattle.air_report.specs.declared.debug.failure.ConstraintFailure.{Constraint
 abbrev pub cell_value : {F : Type 0} → F → Grid F → BoundaryPublic → F
 cell_value z main cell = slice_index_or (row_or_none (slice_get main.rows (row_of cell.end (length main.rows)))) cell.column z
 
--- the boundary value differs from its public value
-abbrev pub differs : {F : Type 0} → CommRing F → (F → F → Bool) → Grid F → List F → BoundaryPublic → Bool
-differs r eq main public cell = not (eq (cell_value r.zero main cell) (slice_index_or public cell.public_value r.zero))
+-- the boundary value is violated: its cell doesn't hold the public value
+abbrev pub is_violated : {F : Type 0} → CommRing F → (F → F → Bool) → Grid F → List F → BoundaryPublic → Bool
+is_violated r eq main public cell = not (eq (cell_value r.zero main cell) (slice_index_or public cell.public_value r.zero))
 
--- the boundary values that differ, each with its index in the list
-abbrev pub differing_cells : {F : Type 0} → CommRing F → (F → F → Bool) → Grid F → List F → List BoundaryPublic → List (ℕ × BoundaryPublic)
-differing_cells r eq main public cells = filter (λ p. differs r eq main public p.1) (enumerate_from 0 cells)
+-- the violated boundary values, each with its index in the list
+abbrev pub violated_cells : {F : Type 0} → CommRing F → (F → F → Bool) → Grid F → List F → List BoundaryPublic → List (ℕ × BoundaryPublic)
+violated_cells r eq main public cells = filter (λ p. is_violated r eq main public p.1) (enumerate_from 0 cells)
 
 -- as many of the first elements as a cap leaves after n failures
 abbrev pub take_within_cap : {X : Type 0} → Option ℕ → ℕ → List X → List X
@@ -62,15 +62,15 @@ IsCellFault main public cells (Boundary e) = IsFirstFault main.width (length pub
 IsCellFault main public cells EmptyTrace = AreSound main.width (length public) cells × (cells ≢ []) × (length main.rows ≡ 0)
 IsCellFault main public cells _ = ⊥
 
--- each of the first n boundary values equals its public value
-abbrev pub AgreeBelow : {F : Type 0} → CommRing F → (F → F → Bool) → Grid F → List F → List BoundaryPublic → ℕ → Type 0
-AgreeBelow r eq main public cells n = EachOfFirst (λ k cell. differs r eq main public cell ≡ false) cells n
+-- each of the first n boundary values holds
+abbrev pub HoldBelow : {F : Type 0} → CommRing F → (F → F → Bool) → Grid F → List F → List BoundaryPublic → ℕ → Type 0
+HoldBelow r eq main public cells n = EachOfFirst (λ k cell. is_violated r eq main public cell ≡ false) cells n
 
--- the index of the first boundary value that differs
-pub record IsFirstDiffering {F : Type 0} (r : CommRing F) (eq : F → F → Bool) (main : Grid F) (public : List F) (cells : List BoundaryPublic) (index : ℕ) : Type 0 where
+-- the index of the first violated boundary value
+pub record IsFirstViolated {F : Type 0} (r : CommRing F) (eq : F → F → Bool) (main : Grid F) (public : List F) (cells : List BoundaryPublic) (index : ℕ) : Type 0 where
   pub within : index < length cells
-  pub before : AgreeBelow r eq main public cells index
-  pub differs_here : HoldsAt (λ cell. differs r eq main public cell ≡ true) cells index
+  pub before : HoldBelow r eq main public cells index
+  pub violated_here : HoldsAt (λ cell. is_violated r eq main public cell ≡ true) cells index
 
 -- One failure was added for each of these boundary values, in order, with its row, index and label.
 pub record ListsCells (h count : ℕ) (cells : List (ℕ × BoundaryPublic)) (fs gs : List ConstraintFailure) : Type 0 where

@@ -1,15 +1,13 @@
 -- The row of a debug builder.
-use Rattle.std.specs.Prelude.{◌≡◌, ◌==◌, ◌+◌, ℕ, not, List, Option, is_some, None, [], Vec}
+use Rattle.std.specs.Prelude.{◌≡◌, ℕ, List, Option, is_some, None, [], Vec}
 use Rattle.std.specs.Global.{Global}
-use Rattle.air_field.specs.Ring.{CommRing}
-use Rattle.air_field.specs.Assignment.{selector}
 use Rattle.air_field.specs.declared.matrices.view.ViewPair.{ViewPair}
 use Rattle.air_builder.specs.PermutationRows.{permutation_data}
 use Rattle.air_report.specs.Debug.{RowData, row_data}
 use Rattle.air_report.specs.declared.debug.builder.DebugConstraintBuilder.{DebugConstraintBuilder}
 use Rattle.air_report.specs.declared.debug.failure.ConstraintFailure.{ConstraintFailure}
 use Rattle.air_report.specs.declared.debug.row.Row.{Row}
-use Rattle.air_report.specs.declared.debug.row.Selectors.{Selectors}
+use Rattle.air_core.specs.declared.selectors.Selectors.{Selectors}
 
 abbrev pub debug_row : {F E : Type 0} → DebugConstraintBuilder F E → RowData F E
 debug_row b = row_data b.row.index b.row.main.top.values.now b.row.main.bottom.values.now
@@ -36,14 +34,6 @@ abbrev pub counted_from : {F E : Type 0} → DebugConstraintBuilder F E → ℕ
     → DebugConstraintBuilder F E
 counted_from b count = record b { constraint_index = count }
 
--- the selectors at row i of h: each is one on its rows, and zero elsewhere
-abbrev pub row_selectors : {F : Type 0} → CommRing F → ℕ → ℕ → Selectors F
-row_selectors r i h = record {
-  is_first_row = selector r (i == 0);
-  is_last_row = selector r (i + 1 == h);
-  is_transition = selector r (not (i + 1 == h));
-}
-
 -- A row of this index holds the pairs of rows, the public values and the selectors from which it was made.
 pub record IsRow {F : Type 0} (i : ℕ) (main_rows table_rows : ViewPair F) (public : List F)
     (selected : Selectors F) (row : Row F) : Type 0 where
@@ -54,17 +44,21 @@ pub record IsRow {F : Type 0} (i : ℕ) (main_rows table_rows : ViewPair F) (pub
   pub public_values : row.public_values.now ≡ public
   pub selectors : row.selectors ≡ selected
 
--- The builder is at the row, with this periodic row and without permutation data. It has counted nothing, and has the
+-- The builder is at the row, with this periodic row and this permutation data. It has counted nothing, and has the
 -- failures of the rows before.
-pub record StandsAt {F E : Type 0} (at : Row F) (periodic : Vec F Global)
-    (before : List ConstraintFailure) (b : DebugConstraintBuilder F E) : Type 0 where
+pub record IsMovedTo {F E : Type 0} (at : Row F) (periodic : Vec F Global) (others : Option (ViewPair E))
+    (challenges exposed : List E) (before : List ConstraintFailure) (b : DebugConstraintBuilder F E) : Type 0 where
   pub row : b.row ≡ at
   pub periodic_row : b.periodic_row ≡ periodic
-  pub permutation : b.permutation ≡ None
-  pub permutation_challenges : b.permutation_challenges.now ≡ []
-  pub permutation_values : b.permutation_values.now ≡ []
+  pub permutation : b.permutation ≡ others
+  pub permutation_challenges : b.permutation_challenges.now ≡ challenges
+  pub permutation_values : b.permutation_values.now ≡ exposed
   pub constraint_index : b.constraint_index ≡ 0
   pub failures : b.failures.items ≡ before
+
+-- the same without permutation data
+abbrev pub StandsAt : {F E : Type 0} → Row F → Vec F Global → List ConstraintFailure → DebugConstraintBuilder F E → Type 0
+StandsAt at periodic before b = IsMovedTo at periodic None [] [] before b
 
 -- The builder is at the row of this index, and holds the given pairs of rows, values and permutation data. It has counted
 -- nothing, and has the failures of the rows before.

@@ -1,6 +1,6 @@
 -- Instances: an AIR on a trace.
-use Rattle.std.specs.Prelude.{ℕ, List, [], length, map, Option, None, Some}
-use Rattle.air_field.specs.Grid.{Grid}
+use Rattle.std.specs.Prelude.{ℕ, List, length, map}
+use Rattle.air_field.specs.Grid.{Grid, table_grid}
 use Rattle.air_field.specs.Assignment.{Trace}
 use Rattle.air_builder.specs.Declaration.{Declaration}
 
@@ -16,11 +16,6 @@ instance air trace values = record { air = air; main = trace; public = values }
 -- the number of rows of the main trace
 abbrev pub row_count : {F : Type 0} → Instance F → ℕ
 row_count x = length x.main.rows
-
--- the preprocessed trace; without one, no columns and no rows
-abbrev pub table_grid : {F : Type 0} → Option (Grid F) → Grid F
-table_grid None = record { width = 0; rows = [] }
-table_grid (Some table) = table
 
 -- the whole trace: main, preprocessed, periodic columns and public values
 abbrev pub instance_trace : {F : Type 0} → Instance F → Trace F

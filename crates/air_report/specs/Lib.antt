@@ -16,5 +16,8 @@ pub mod DebugRow
 pub mod FailureTexts
 pub mod DebugLabels
 pub mod DebugAsserts
+pub mod ReportBy
 pub mod Checks
+pub mod RowLabels
+pub mod Permuted
 pub mod laws

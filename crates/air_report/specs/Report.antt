@@ -18,17 +18,22 @@ assertion_value r s (Extension t) = value (self_algebra r) s t
 abbrev pub all_places : {F : Type 0} → ℕ → List (Assertion F) → List (ℕ × (ℕ × Assertion F))
 all_places h ts = flat_map (λ r. map (λ p. (r, p)) (enumerate_from 0 ts)) (range_with_len 0 h)
 
--- the assertion isn't zero at the row
-abbrev pub is_nonzero : {F : Type 0} → CommRing F → (F → F → Bool) → Trace F → ℕ × (ℕ × Assertion F) → Bool
-is_nonzero r eq trace p = not (eq (assertion_value r (row_assignment r trace p.0) p.1.1) r.zero)
+-- whether an assertion is zero at row i
+abbrev pub zero_at : {F : Type 0} → CommRing F → (F → F → Bool) → Trace F → ℕ → Assertion F → Bool
+zero_at r eq trace i t = eq (assertion_value r (row_assignment r trace i) t) r.zero
 
 -- the row, and the index in the list
 abbrev pub place : {F : Type 0} → ℕ × (ℕ × Assertion F) → ℕ × ℕ
 place p = (p.0, p.1.0)
 
+-- The report on the first h rows by a test of which assertions are zero at a row: all pairs of row and constraint index,
+-- in order, where the test doesn't find zero.
+abbrev pub report_by : {F : Type 0} → (ℕ → Assertion F → Bool) → List (Assertion F) → ℕ → List (ℕ × ℕ)
+report_by zero ts h = map place (filter (λ p. not (zero p.0 p.1.1)) (all_places h ts))
+
 -- The report on the first h rows: all pairs of row and constraint index, in order, where the term isn't zero.
 abbrev pub report_of : {F : Type 0} → CommRing F → (F → F → Bool) → Trace F → List (Assertion F) → ℕ → List (ℕ × ℕ)
-report_of r eq trace ts h = map place (filter (is_nonzero r eq trace) (all_places h ts))
+report_of r eq trace ts h = report_by (zero_at r eq trace) ts h
 
 -- a failure's row and constraint index
 abbrev pub failure_place : ConstraintFailure → ℕ × ℕ
@@ -43,11 +48,15 @@ abbrev pub IsReached : Option ℕ → ℕ → Type 0
 IsReached None n = ⊥
 IsReached (Some cap) n = cap ≤ n
 
--- m is the least number of rows whose report reaches the cap, or h if there is none
-pub record IsRowsShown {F : Type 0} (r : CommRing F) (eq : F → F → Bool) (trace : Trace F) (ts : List (Assertion F)) (cap : Option ℕ) (h m : ℕ) : Type 0 where
+-- m is the least number of rows whose report by the test reaches the cap, or h if there is none
+pub record IsRowsShownBy {F : Type 0} (zero : ℕ → Assertion F → Bool) (ts : List (Assertion F)) (cap : Option ℕ) (h m : ℕ) : Type 0 where
   pub within : m ≤ h
-  pub enough : (m ≡ h) ⊎ IsReached cap (length (report_of r eq trace ts m))
-  pub least : (k : ℕ) → k < m → IsReached cap (length (report_of r eq trace ts k)) → ⊥
+  pub enough : (m ≡ h) ⊎ IsReached cap (length (report_by zero ts m))
+  pub least : (k : ℕ) → k < m → IsReached cap (length (report_by zero ts k)) → ⊥
+
+-- m is the least number of rows whose report reaches the cap, or h if there is none
+abbrev pub IsRowsShown : {F : Type 0} → CommRing F → (F → F → Bool) → Trace F → List (Assertion F) → Option ℕ → ℕ → ℕ → Type 0
+IsRowsShown r eq trace ts cap h m = IsRowsShownBy (zero_at r eq trace) ts cap h m
 
 -- the number of constraints of row 0; 0 if no row ran
 abbrev pub constraints_counted : {F : Type 0} → List (Assertion F) → ℕ → ℕ

@@ -4,7 +4,7 @@ use Rattle.std.specs.Int.{IsPowerOfTwo}
 use Rattle.air_field.specs.Grid.{Grid}
 use Rattle.air_core.specs.FirstOnes.{EachOfFirst}
 use Rattle.air_core.specs.declared.errors.AirError.{AirError}
-use Rattle.air_core.specs.declared.errors.AirError.TheVariants.{PreprocessedHeight, PeriodNotPowerOfTwo, PeriodDoesNotDivide}
+use Rattle.air_core.specs.declared.errors.AirError.TheVariants.{PreprocessedHeight, PermutationHeight, PeriodNotPowerOfTwo, PeriodDoesNotDivide}
 
 -- the number of rows of the preprocessed trace, if there is one
 abbrev pub table_height : {F : Type 0} → Option (Grid F) → Option ℕ
@@ -38,3 +38,8 @@ IsShapeFault columns height preprocessed _ = ⊥
 abbrev pub MatchShapes : {T A : Type 0} → List (Vec T A) → ℕ → Option ℕ → Result ⊤ AirError → Type 0
 MatchShapes columns height preprocessed (Ok _) = ShapesFit columns height preprocessed
 MatchShapes columns height preprocessed (Err e) = IsShapeFault columns height preprocessed e
+
+-- the error names the heights of the permutation trace and of the trace, which differ
+abbrev pub IsHeightFault : ℕ → ℕ → AirError → Type 0
+IsHeightFault permutation height (PermutationHeight p m) = (p ≡ permutation) × (m ≡ height) × (permutation ≢ height)
+IsHeightFault permutation height _ = ⊥

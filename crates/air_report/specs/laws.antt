@@ -4,5 +4,7 @@ pub mod DebugLabels
 pub mod DebugValues
 pub mod Plain
 pub mod Report
+pub mod RowLabels
+pub mod Over
 pub mod VanishingReports
 pub mod VanishingChecks

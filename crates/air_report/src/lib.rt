@@ -9,6 +9,8 @@ pub mod debug;
 
 pub use checks::check::check_all_constraints;
 pub use checks::check_first::{CheckError, check_constraints};
+pub use checks::permutation::Permutation;
+pub use checks::permuted::check_all_constraints_with_permutation;
 pub use checks::report::ConstraintReport;
 pub use debug::builder::DebugConstraintBuilder;
 pub use debug::failure::ConstraintFailure;

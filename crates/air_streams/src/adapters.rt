@@ -1,15 +1,26 @@
 //! Sources and sinks over std's readers and writers.
 
-ghost use Rattle.std.specs.Prelude.{◌≡◌, false};
+ghost use Rattle.std.specs.Prelude.{◌≡◌, ◌≢◌, ◌↔◌, false, is_some, IfSome, IsTrue};
+ghost use Rattle.std.specs.IoError.{error_kind};
+ghost use Rattle.std.specs.Option.{ForSome};
 
 use crate::stream::{Sink, Source, StreamFault};
-use std::io::{ErrorKind, Read, Write};
+use std::io::{Error, ErrorKind, Read, Write};
+
+// Whether a signal interrupted the call.
+fn is_interrupted(error: &Error) -> bool
+    ensures { IsTrue result ↔ (error_kind error.now ≡ ErrorKind.Interrupted) }
+{
+    error.kind() == ErrorKind::Interrupted
+}
 
 /// A reader as a source. A read that a signal interrupts is repeated.
 #[derive(Drop)]
 pub struct ReadSource<R> {
     inner: R,
-    failed: bool,
+    fault: Option<Error>,
+    // An interrupted read is no fault: it is repeated.
+    ghost repeats: { ForSome fault (λ e. error_kind e ≢ ErrorKind.Interrupted) },
 }
 
 impl<R: Read> ReadSource<R> {
@@ -18,32 +29,40 @@ impl<R: Read> ReadSource<R> {
         ensures remaining { ⟦<ReadSource<R> as Source>⟧.remaining result ≡ R.remaining inner }
         ensures failed { ⟦<ReadSource<R> as Source>⟧.has_failed result ≡ false }
     {
-        ReadSource {
-            inner,
-            failed: false,
-        }
+        ReadSource { inner, fault: None }
+    }
+
+    /// The error of the read that failed. It is no interruption by a signal, since such a read is repeated.
+    pub fn fault(&self) -> Option<Error>
+        ensures some { is_some result ≡ ⟦<ReadSource<R> as Source>⟧.has_failed self.now }
+        ensures repeats { IfSome result (λ e. error_kind e ≢ ErrorKind.Interrupted) }
+    {
+        self.fault
     }
 }
 
 impl<R: Read> Source for ReadSource<R> {
     ghost remaining = { λ s. R.remaining s.inner };
 
-    ghost has_failed = { λ s. s.failed };
+    ghost has_failed = { λ s. is_some s.fault };
 
     fn pull(&mut self, buf: &mut [u8]) -> Result<usize, StreamFault> {
         for _ in 0..u64::MAX {
             match self.inner.read(buf) {
                 Ok(count) => return Ok(count),
-                Err(e) if e.kind() == ErrorKind::Interrupted => {}
-                Err(_) => break,
+                Err(e) if is_interrupted(&e) => {}
+                Err(e) => {
+                    self.fault = Some(e);
+                    return Err(StreamFault);
+                }
             }
         }
-        self.failed = true;
+        self.fault = Some(Error::new(ErrorKind::TimedOut, "each read was interrupted"));
         Err(StreamFault)
     }
 
     fn has_failed(&self) -> bool {
-        self.failed
+        self.fault.is_some()
     }
 }
 

@@ -1,5 +1,6 @@
 -- Lowering a tree without extension-only leaves to a base tree.
-use Rattle.std.proofs.Common.{◌≡◌, ℕ, ◌+◌, ◌<◌, max, List, length, get_or, refl, sym, ap, ap₂, ◌∙◌, inl, inr, ◌⊎◌, Option, Some, None, subst}
+use Rattle.std.proofs.Common.{◌≡◌, ℕ, ◌+◌, ◌<◌, max, List, [], ◌∷◌, length, get_or, All, Contains, refl, sym, ap, ap₂, ◌∙◌, inl, inr, ◌⊎◌, ⊎_elim, Option, Some, None, subst, arith}
+use Rattle.std.proofs.lemmas.List.Elements.{All-contains}
 use Rattle.std.specs.Prelude.{option_map}
 use Rattle.air_field.specs.Degree.{degree_by, cached_weight}
 use Rattle.air_field.specs.Ring.{CommRing}
@@ -10,12 +11,15 @@ use Rattle.air_symbolic.specs.Pools.{HasTree, tree_at, IsPool}
 use Rattle.air_symbolic.specs.BaseLeaves.{base_term, base_leaves, base_reads, base_grows}
 use Rattle.air_symbolic.specs.laws.BaseLeaves.{base_leaf_laws}
 use Rattle.air_symbolic.specs.laws.Pools.{tree-kept, here-kept}
-use Rattle.air_symbolic.specs.Nodes.{unfold_node, tree_of, cached_degree, OperandsBelow, IsNode}
+use Rattle.air_symbolic.specs.Leaves.{Leaves}
+use Rattle.air_symbolic.specs.Nodes.{unfold_node, tree_of, cached_degree, operands, OperandsBelow, NodeFits, WellFormed, IsNode}
+use Rattle.air_symbolic.specs.laws.Nodes.{of_one, of_two, no_operand, the_operand, one_of_two}
 use Rattle.air_symbolic.specs.laws.Numbers.{tree_of-valid, both-valid, both-term, negative-valid, negative-term}
 use Rattle.air_symbolic.specs.ExtLeaves.{BaseNodes, ext_valid, ext_grows, ext_term, ext_reads}
 use Rattle.air_symbolic.specs.ExtPool.{ExtNodes}
-use Rattle.air_symbolic.specs.Reach.{EachOperand}
-use Rattle.air_symbolic.specs.Lowered.{IsLoweredIn, LoweredAt, IsLoweredNode, CanLower}
+use Rattle.air_symbolic.specs.Reach.{EachOperand, IsOperand}
+use Rattle.air_symbolic.specs.Lowered.{IsLoweredIn, LoweredAt, IsCounterpart, CanLower}
+use Rattle.air_symbolic.specs.declared.pools.lower.Counterpart.TheVariants.{Node}
 use Rattle.air_symbolic.specs.declared.pools.expr.SymbolicExpr.{SymbolicExpr}
 use Rattle.air_symbolic.specs.declared.pools.expr.SymbolicExpr.TheVariants.{Leaf, Add, Sub, Neg, Mul}
 use Rattle.air_symbolic.specs.ExtTrees.{SomeExtOnly, HasExtOnly, lower_tree, lower, HasTermOf}
@@ -135,11 +139,25 @@ module _ {F EF : Type 0} (p q : ExtNodes F EF) (i : ℕ) (o : Option ℕ) where
 
 -- a property of all numbers below k holds for operands below k
 pub each_below : {A : Type 0} (P Q : ℕ → Type 0) (k : ℕ) (n : SymbolicExpr A) → ((i : ℕ) → i < k → P i → Q i) → OperandsBelow k n → EachOperand P n → EachOperand Q n
-each_below P Q k (Leaf a) f b h = tt
-each_below P Q k (Add x y d) f b h = (f x b.0 h.0, f y b.1 h.1)
-each_below P Q k (Sub x y d) f b h = (f x b.0 h.0, f y b.1 h.1)
-each_below P Q k (Neg x d) f b h = f x b h
-each_below P Q k (Mul x y d) f b h = (f x b.0 h.0, f y b.1 h.1)
+each_below P Q k n f b h = λ j d lt. f _ (b j d lt) (h j d lt)
+
+-- an extension-only leaf of an operand is one of the node
+module _ {F EF : Type 0} (l : Leaves (ExtLeaf F EF) F) (ns : List (SymbolicExpr (ExtLeaf F EF))) (wf : WellFormed l ns) where
+  joined_ext_only : (node : Tree (ExtLeaf F EF) → Tree (ExtLeaf F EF) → Tree (ExtLeaf F EF)) → ((t u : Tree (ExtLeaf F EF)) → SomeExtOnly t ⊎ SomeExtOnly u → SomeExtOnly (node t u))
+      → (i x y : ℕ) → All (λ z. z < length ns) (x ∷ y ∷ []) → Contains (x ∷ y ∷ []) i → HasExtOnly (tree_of ns i) → HasExtOnly (both node (tree_of ns x) (tree_of ns y))
+  joined_ext_only node is i x y b p h =
+      either_ext_only node l.valid is (tree_of ns x) (tree_of ns y) (tree_of-valid l ns wf x (b 0 x (omega arith))) (tree_of-valid l ns wf y (b 1 y (omega arith)))
+      (⊎_elim
+      (λ (e : i ≡ x). inl (subst (λ k. HasExtOnly (tree_of ns k)) e h))
+      (λ (e : i ≡ y). inr (subst (λ k. HasExtOnly (tree_of ns k)) e h))
+      (one_of_two i x y p))
+
+  pub operand-ext-only : (i : ℕ) (n : SymbolicExpr (ExtLeaf F EF)) → NodeFits l ns n → IsOperand i n → HasExtOnly (tree_of ns i) → HasExtOnly (unfold_node (tree_of ns) n)
+  operand-ext-only i (Leaf a) fits p h = absurd (no_operand i p)
+  operand-ext-only i (Add x y d) fits p h = joined_ext_only add_tree (λ _ _ e. e) i x y fits.below p h
+  operand-ext-only i (Sub x y d) fits p h = joined_ext_only sub_tree (λ _ _ e. e) i x y fits.below p h
+  operand-ext-only i (Neg x d) fits p h = negative_ext_only (tree_of ns x) (subst (λ k. HasExtOnly (tree_of ns k)) (the_operand i x p) h)
+  operand-ext-only i (Mul x y d) fits p h = joined_ext_only mul_tree (λ _ _ e. e) i x y fits.below p h
 
 -- Number i, which can be lowered, is a node in the base pool over its operands' base numbers.
 module _ {F EF : Type 0} (r : CommRing F) {basis : Basis F EF} {p : ExtNodes F EF} (pool : IsPool (ext_reads basis) p) {table : List (Option ℕ)} {i : ℕ} (ready : CanLower p table i) where
@@ -148,22 +166,21 @@ module _ {F EF : Type 0} (r : CommRing F) {basis : Basis F EF} {p : ExtNodes F E
     operands-there =
         each_below (LoweredAt p table) (λ x. get_or table x None ≡ None → ⊥) i n (λ x _ h. lowered-there p p x (get_or table x None) h) is.below (ready.operands n is.node)
 
-    none : HasExtOnly (unfold_node (tree_of p.nodes) n) → ⊥
-    none = subst (λ t. HasExtOnly t → ⊥) is.tree ready.base_only
-
-  valid_at : (x : ℕ) → x < length p.nodes → IsValidTree (ext_valid p.base) (tree_at p x)
-  valid_at = tree_of-valid (ext_reads basis p.base) p.nodes pool.nodes
-
-  -- b is the base number of the operand x
+  -- b is the base number of x
   record IsFor (x b : ℕ) : Type 0 where
+    valid : IsValidTree (ext_valid p.base) (tree_at p x)
     here : b < length p.base.nodes
     degree : cached_degree (ext_reads basis p.base) p.nodes x ≡ cached_degree base_leaves p.base.nodes b
     tree : tree_at p.base b ≡ lower p.base (tree_at p x)
 
-  operand : (x b : ℕ) → x < length p.nodes → (HasExtOnly (tree_at p x) → ⊥) → LoweredAt p table x → get_or table x None ≡ Some b → IsFor x b
-  operand x b here base at e =
-      let h = lowered-read p p x (get_or table x None) at b e in
+  -- an operand's base number, as the table has it
+  operand : {n : SymbolicExpr (ExtLeaf F EF)} → IsNode (ext_reads basis p.base) p.nodes i n → (x b : ℕ) → IsOperand x n → get_or table x None ≡ Some b → IsFor x b
+  operand {n = n} is x b of e =
+      let here = All-contains (λ z. z < length p.nodes) (operands n) x is.fits.below of in
+      let base = λ (o : HasExtOnly (tree_at p x)). ready.base_only (subst HasExtOnly (sym is.tree) (operand-ext-only (ext_reads basis p.base) p.nodes pool.nodes x n is.fits of o)) in
+      let h = lowered-read p p x (get_or table x None) (All-contains (LoweredAt p table) (operands n) x (ready.operands n is.node) of) b e in
       record {
+        valid = tree_of-valid (ext_reads basis p.base) p.nodes pool.nodes x here;
         here = h.here;
         degree = ap (degree_by cached_weight) (sym (lowered-has-term r basis p x p.base b pool here base h));
         tree = h.tree;
@@ -171,32 +188,35 @@ module _ {F EF : Type 0} (r : CommRing F) {basis : Basis F EF} {p : ExtNodes F E
 
   -- a node over two operands, and its lowered node
   module _ (join : ℕ → ℕ → ℕ) (node : Tree (BaseLeaf F) → Tree (BaseLeaf F) → Tree (BaseLeaf F)) (ext_node : Tree (ExtLeaf F EF) → Tree (ExtLeaf F EF) → Tree (ExtLeaf F EF))
-      (lowers : (t u : Tree (ExtLeaf F EF)) → lower_tree p.base (ext_node t u) ≡ both node (lower_tree p.base t) (lower_tree p.base u))
-      (occurs : (t u : Tree (ExtLeaf F EF)) → SomeExtOnly t ⊎ SomeExtOnly u → SomeExtOnly (ext_node t u)) where
-    over_two : (x y d a b : ℕ) → (x < length p.nodes) × (y < length p.nodes) × (d ≡ join (cached_degree (ext_reads basis p.base) p.nodes x) (cached_degree (ext_reads basis p.base) p.nodes y))
-        → (HasExtOnly (both ext_node (tree_at p x) (tree_at p y)) → ⊥) → LoweredAt p table x × LoweredAt p table y → tree_at p i ≡ both ext_node (tree_at p x) (tree_at p y)
-        → get_or table x None ≡ Some a → get_or table y None ≡ Some b
-        → ((a < length p.base.nodes) × (b < length p.base.nodes) × (d ≡ join (cached_degree base_leaves p.base.nodes a) (cached_degree base_leaves p.base.nodes b))) × (both node (tree_at p.base a) (tree_at p.base b) ≡ lower p.base (tree_at p i))
-    over_two x y d a b fits base at tree ea eb =
-        let left = valid_at x fits.0 in
-        let right = valid_at y fits.1 in
-        let ha = operand x a fits.0 (λ e. base (either_ext_only ext_node (ext_valid p.base) occurs (tree_at p x) (tree_at p y) left right (inl e))) at.0 ea in
-        let hb = operand y b fits.1 (λ e. base (either_ext_only ext_node (ext_valid p.base) occurs (tree_at p x) (tree_at p y) left right (inr e))) at.1 eb in (
-          (ha.here, hb.here, fits.2 ∙ ap₂ join ha.degree hb.degree),
-          ap₂ (both node) ha.tree hb.tree ∙ sym (ap (lower p.base) tree ∙ lowered-both p.base ext_node node lowers (tree_at p x) (tree_at p y) left right),
-        )
+      (lowers : (t u : Tree (ExtLeaf F EF)) → lower_tree p.base (ext_node t u) ≡ both node (lower_tree p.base t) (lower_tree p.base u)) where
+    over_two : {x y d a b : ℕ} → IsFor x a → IsFor y b → d ≡ join (cached_degree (ext_reads basis p.base) p.nodes x) (cached_degree (ext_reads basis p.base) p.nodes y)
+        → tree_at p i ≡ both ext_node (tree_at p x) (tree_at p y)
+        → All (λ z. z < length p.base.nodes) (a ∷ b ∷ []) × (d ≡ join (cached_degree base_leaves p.base.nodes a) (cached_degree base_leaves p.base.nodes b))
+        × (both node (tree_at p.base a) (tree_at p.base b) ≡ lower p.base (tree_at p i))
+    over_two {x = x} {y = y} {a = a} {b = b} h k degree tree = (
+      of_two (λ z. z < length p.base.nodes) a b h.here k.here,
+      degree ∙ ap₂ join h.degree k.degree,
+      ap₂ (both node) h.tree k.tree ∙ sym (ap (lower p.base) tree ∙ lowered-both p.base ext_node node lowers (tree_at p x) (tree_at p y) h.valid k.valid),
+    )
 
-  pub added : {x y d a b : ℕ} → IsNode (ext_reads basis p.base) p.nodes i (Add x y d) → get_or table x None ≡ Some a → get_or table y None ≡ Some b → IsLoweredNode p i (Add a b d)
-  added is = over_two max add_tree add_tree (λ _ _. refl) (λ _ _ e. e) _ _ _ _ _ is.fits (none is) (ready.operands _ is.node) is.tree
+  pub added : {x y d a b : ℕ} → IsNode (ext_reads basis p.base) p.nodes i (Add x y d) → get_or table x None ≡ Some a → get_or table y None ≡ Some b → IsCounterpart p i (Node (Add a b d))
+  added {x = x} {y = y} is e f =
+      let h = over_two max add_tree add_tree (λ _ _. refl) (operand is x _ (0, omega arith, refl) e) (operand is y _ (1, omega arith, refl) f) is.fits.degree is.tree in
+      (record { valid = tt; below = h.0; degree = h.1; in_range = is.fits.in_range }, h.2)
 
-  pub subtracted : {x y d a b : ℕ} → IsNode (ext_reads basis p.base) p.nodes i (Sub x y d) → get_or table x None ≡ Some a → get_or table y None ≡ Some b → IsLoweredNode p i (Sub a b d)
-  subtracted is = over_two max sub_tree sub_tree (λ _ _. refl) (λ _ _ e. e) _ _ _ _ _ is.fits (none is) (ready.operands _ is.node) is.tree
+  pub subtracted : {x y d a b : ℕ} → IsNode (ext_reads basis p.base) p.nodes i (Sub x y d) → get_or table x None ≡ Some a → get_or table y None ≡ Some b → IsCounterpart p i (Node (Sub a b d))
+  subtracted {x = x} {y = y} is e f =
+      let h = over_two max sub_tree sub_tree (λ _ _. refl) (operand is x _ (0, omega arith, refl) e) (operand is y _ (1, omega arith, refl) f) is.fits.degree is.tree in
+      (record { valid = tt; below = h.0; degree = h.1; in_range = is.fits.in_range }, h.2)
 
-  pub multiplied : {x y d a b : ℕ} → IsNode (ext_reads basis p.base) p.nodes i (Mul x y d) → get_or table x None ≡ Some a → get_or table y None ≡ Some b → IsLoweredNode p i (Mul a b d)
-  multiplied is = over_two (λ k l. k + l) mul_tree mul_tree (λ _ _. refl) (λ _ _ e. e) _ _ _ _ _ is.fits (none is) (ready.operands _ is.node) is.tree
+  pub multiplied : {x y d a b : ℕ} → IsNode (ext_reads basis p.base) p.nodes i (Mul x y d) → get_or table x None ≡ Some a → get_or table y None ≡ Some b → IsCounterpart p i (Node (Mul a b d))
+  multiplied {x = x} {y = y} is e f =
+      let h = over_two (λ k l. k + l) mul_tree mul_tree (λ _ _. refl) (operand is x _ (0, omega arith, refl) e) (operand is y _ (1, omega arith, refl) f) is.fits.degree is.tree in
+      (record { valid = tt; below = h.0; degree = h.1; in_range = is.fits.in_range }, h.2)
 
-  pub negated : {x d a : ℕ} → IsNode (ext_reads basis p.base) p.nodes i (Neg x d) → get_or table x None ≡ Some a → IsLoweredNode p i (Neg a d)
-  negated {x = x} {d = d} {a = a} is e =
-      let valid = valid_at x is.fits.0 in
-      let h = operand x a is.fits.0 (λ o. none is (negative_ext_only (tree_at p x) o)) (ready.operands (Neg x d) is.node) e in
-      ((h.here, is.fits.1 ∙ h.degree), ap (option_map neg_tree) h.tree ∙ sym (ap (lower p.base) is.tree ∙ lowered-negative p.base (tree_at p x) valid))
+  pub negated : {x d a : ℕ} → IsNode (ext_reads basis p.base) p.nodes i (Neg x d) → get_or table x None ≡ Some a → IsCounterpart p i (Node (Neg a d))
+  negated {x = x} {a = a} is e =
+      let h = operand is x _ (0, omega arith, refl) e in (
+        record { valid = tt; below = of_one (λ z. z < length p.base.nodes) a h.here; degree = is.fits.degree ∙ h.degree; in_range = is.fits.in_range },
+        ap (option_map neg_tree) h.tree ∙ sym (ap (lower p.base) is.tree ∙ lowered-negative p.base (tree_at p x) h.valid),
+      )

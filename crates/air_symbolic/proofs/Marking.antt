@@ -1,28 +1,11 @@
 -- Marking numbers one after another.
 use Rattle.std.proofs.Common.{◌≡◌, ◌⊎◌, ℕ, ◌+◌, ◌<◌, ◌≤◌, List, length, get_or, Contains, Option, None, Some, inl, inr, sym, subst, ◌∙◌, arith, ⊎_elim}
 use Rattle.std.proofs.lemmas.List.{get_or_past, get_or_default}
+use Rattle.std.proofs.lemmas.List.Elements.{All-weaker, All-contains}
 use Rattle.air_symbolic.specs.Leaves.{Leaves}
-use Rattle.air_symbolic.specs.Nodes.{IsNode, OperandsBelow}
+use Rattle.air_symbolic.specs.Nodes.{operands, IsNode}
 use Rattle.air_symbolic.specs.declared.pools.expr.SymbolicExpr.{SymbolicExpr}
-use Rattle.air_symbolic.specs.declared.pools.expr.SymbolicExpr.TheVariants.{Leaf, Add, Sub, Neg, Mul}
 use Rattle.air_symbolic.specs.Reach.{EachOperand, IsOperand, Marked, MarkedMore, ReachedFrom, root, operand}
-
-each_operand : {A : Type 0} (P Q : ℕ → Type 0) (n : SymbolicExpr A) → ((i : ℕ) → P i → Q i) → EachOperand P n → EachOperand Q n
-each_operand P Q (Leaf a) f h = tt
-each_operand P Q (Add x y d) f h = (f x h.0, f y h.1)
-each_operand P Q (Sub x y d) f h = (f x h.0, f y h.1)
-each_operand P Q (Neg x d) f h = f x h
-each_operand P Q (Mul x y d) f h = (f x h.0, f y h.1)
-
-operand_below : {A : Type 0} (k i : ℕ) (n : SymbolicExpr A) → OperandsBelow k n → IsOperand i n → i < k
-operand_below k i (Leaf a) h p = absurd p
-operand_below k i (Add x y d) h (inl e) = subst (λ j. j < k) (sym e) h.0
-operand_below k i (Add x y d) h (inr e) = subst (λ j. j < k) (sym e) h.1
-operand_below k i (Sub x y d) h (inl e) = subst (λ j. j < k) (sym e) h.0
-operand_below k i (Sub x y d) h (inr e) = subst (λ j. j < k) (sym e) h.1
-operand_below k i (Neg x d) h e = subst (λ j. j < k) (sym e) h
-operand_below k i (Mul x y d) h (inl e) = subst (λ j. j < k) (sym e) h.0
-operand_below k i (Mul x y d) h (inr e) = subst (λ j. j < k) (sym e) h.1
 
 -- a number has only one node
 one_node : {A F : Type 0} (l : Leaves A F) (ns : List (SymbolicExpr A)) (i : ℕ) (m n : SymbolicExpr A) → IsNode l ns i m → IsNode l ns i n → m ≡ n
@@ -30,23 +13,6 @@ one_node l ns i m n h k = some_inj (sym h.node ∙ k.node)
   where
     some_inj : Some m ≡ Some n → m ≡ n
     some_inj e = cc
-
--- one number and then another was marked
-pub marked_both : (x y : ℕ) (a b d : List (Option ℕ)) → MarkedMore (λ i. i ≡ x) a b → MarkedMore (λ i. i ≡ y) b d
-    → MarkedMore (λ i. (i ≡ x) ⊎ (i ≡ y)) a d
-marked_both x y a b d h g = record {
-  places = g.places ∙ h.places;
-  stays = λ i m. g.stays i (h.stays i m);
-  only = λ i j e.
-      ⊎_elim
-      (λ (o : get_or b i None ≡ Some j).
-      ⊎_elim
-      (λ (p : get_or a i None ≡ Some j). inl p)
-      (λ (q : (j ≡ i) × (i ≡ x)). inr (q.0, inl q.1))
-      (h.only i j o))
-      (λ (q : (j ≡ i) × (i ≡ y)). inr (q.0, inr q.1))
-      (g.only i j e);
-}
 
 module _ {A F : Type 0} (l : Leaves A F) (ns : List (SymbolicExpr A)) (roots : List ℕ) where
   -- every mark is the number of its entry, and reached
@@ -88,8 +54,8 @@ module _ {A F : Type 0} (l : Leaves A F) (ns : List (SymbolicExpr A)) (roots : L
       (λ (e : i ≡ k). subst (λ q. EachOperand (λ j. Marked b j) q) (one_node l ns k n p is (subst (λ v. IsNode l ns v p) e ip)) marked)
       (λ (lt : k < i).
       ⊎_elim
-      (λ (o : Marked a i). each_operand (λ j. Marked a j) (λ j. Marked b j) p g.stays (h i (omega (arith, lt, le)) p o ip))
-      (λ (q : (i ≡ i) × IsOperand i n). let low = operand_below k i n is.below q.1 in absurd (omega (arith, low, lt)))
+      (λ (o : Marked a i). All-weaker (λ j. Marked a j) (λ j. Marked b j) g.stays (operands p) (h i (omega (arith, lt, le)) p o ip))
+      (λ (q : (i ≡ i) × IsOperand i n). let low = All-contains (λ j. j < k) (operands n) i is.below q.1 in absurd (omega (arith, low, lt)))
       (g.only i i mi))
       (at_or_above i k from)
     where

@@ -1,13 +1,6 @@
 -- Degrees above `usize`.
-use Rattle.std.proofs.Common.{◌≡◌, ◌≢◌, refl, ℕ, zero, suc, ◌<◌, ◌≤◌, ◌^◌, List, [], ◌∷◌, length, map, get_or, inl, inr, subst, arith, Err}
-use Rattle.air_field.specs.declared.errors.RingError.{RingError}
-use Rattle.air_field.specs.declared.errors.RingError.TheVariants.{Memory, DegreeOverflow}
-use Rattle.air_symbolic.specs.PoolRefusals.{AnswersDegree}
+use Rattle.std.proofs.Common.{◌≡◌, ℕ, zero, suc, ◌<◌, ◌≤◌, ◌^◌, List, [], ◌∷◌, length, map, get_or, inl, inr, subst, arith}
 use Rattle.air_symbolic.specs.Weights.{SomeOverflows}
-
-pub refused-degree : (d : ℕ) (e : RingError) → AnswersDegree d (Err e) → e ≢ Memory → 2 ^ 64 ≤ d
-refused-degree d Memory h n = absurd (n refl)
-refused-degree d DegreeOverflow h n = h
 
 -- the degree at index i exceeds `usize`
 pub overflows-at : {X : Type 0} (f : X → ℕ) (xs : List X) (i : ℕ) (x : X) → i < length xs → x ≡ get_or xs i x → 2 ^ 64 ≤ f x → SomeOverflows (map f xs)

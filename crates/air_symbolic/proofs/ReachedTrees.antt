@@ -5,46 +5,24 @@ use Rattle.std.specs.Prelude.{slice_get}
 use Rattle.air_field.specs.Ring.{CommRing}
 use Rattle.air_field.specs.Extension.{Basis}
 use Rattle.air_symbolic.specs.Leaves.{Leaves}
-use Rattle.air_symbolic.specs.Trees.{Tree, leaf_tree, add_tree, sub_tree, neg_tree, mul_tree, both}
-use Rattle.air_symbolic.specs.Nodes.{unfold_node, tree_of, NodeFits, WellFormed, IsNode}
+use Rattle.air_symbolic.specs.Trees.{Tree, leaf_tree, add_tree, sub_tree, mul_tree}
+use Rattle.air_symbolic.specs.Nodes.{unfold_node, tree_of, WellFormed, IsNode}
 use Rattle.air_symbolic.specs.laws.Numbers.{tree_of-valid}
 use Rattle.air_symbolic.specs.laws.Sharing.{found, node_at-is}
 use Rattle.air_symbolic.specs.Pools.{IsPool, Grown, HasTree, tree_at}
 use Rattle.air_symbolic.specs.ExtLeaves.{ext_grows, ext_reads}
 use Rattle.air_symbolic.specs.ExtPool.{ExtNodes}
-use Rattle.air_symbolic.specs.ExtTrees.{SomeExtOnly, HasExtOnly, lower}
-use Rattle.air_symbolic.specs.Reach.{EachOperand, IsOperand, Marked, Reached, ReachedFrom, root, operand}
+use Rattle.air_symbolic.specs.ExtTrees.{HasExtOnly, lower}
+use Rattle.air_symbolic.specs.Reach.{EachOperand, Marked, Reached, ReachedFrom, root, operand}
 use Rattle.air_symbolic.specs.Lowered.{IsExtOnlyLeaf, IsMarkedExtOnly, IsLoweredIn, LoweredAt, CanLower}
 use Rattle.air_symbolic.specs.declared.pools.expr.SymbolicExpr.{SymbolicExpr}
 use Rattle.air_symbolic.specs.declared.pools.expr.SymbolicExpr.TheVariants as node
 use Rattle.air_symbolic.specs.declared.leaves.ext_leaf.ExtLeaf.{ExtLeaf}
-use Rattle.air_symbolic.proofs.Lowering.{each_below, HasTree-kept, lowered-kept, lowered-read, either_ext_only, ext_only_either, negative_ext_only, ext_only_negative}
-
--- an extension-only leaf of an operand is one of the node
-module _ {F EF : Type 0} (l : Leaves (ExtLeaf F EF) F) (ns : List (SymbolicExpr (ExtLeaf F EF))) (wf : WellFormed l ns) where
-  of_two : (node_of : Tree (ExtLeaf F EF) → Tree (ExtLeaf F EF) → Tree (ExtLeaf F EF)) → ((t u : Tree (ExtLeaf F EF)) → SomeExtOnly t ⊎ SomeExtOnly u → SomeExtOnly (node_of t u))
-      → (i x y : ℕ) → x < length ns → y < length ns → (i ≡ x) ⊎ (i ≡ y) → HasExtOnly (tree_of ns i) → HasExtOnly (both node_of (tree_of ns x) (tree_of ns y))
-  of_two node_of is i x y b c p h =
-      either_ext_only node_of l.valid is (tree_of ns x) (tree_of ns y) (tree_of-valid l ns wf x b) (tree_of-valid l ns wf y c)
-      (⊎_elim
-      (λ (e : i ≡ x). inl (subst (λ k. HasExtOnly (tree_of ns k)) e h))
-      (λ (e : i ≡ y). inr (subst (λ k. HasExtOnly (tree_of ns k)) e h))
-      p)
-
-  operand-ext-only : (i : ℕ) (n : SymbolicExpr (ExtLeaf F EF)) → NodeFits l ns n → IsOperand i n → HasExtOnly (tree_of ns i) → HasExtOnly (unfold_node (tree_of ns) n)
-  operand-ext-only i (node.Leaf a) fits p h = absurd p
-  operand-ext-only i (node.Add x y d) fits p h = of_two add_tree (λ _ _ e. e) i x y fits.0 fits.1 p h
-  operand-ext-only i (node.Sub x y d) fits p h = of_two sub_tree (λ _ _ e. e) i x y fits.0 fits.1 p h
-  operand-ext-only i (node.Neg x d) fits e h = negative_ext_only (tree_of ns x) (subst (λ k. HasExtOnly (tree_of ns k)) e h)
-  operand-ext-only i (node.Mul x y d) fits p h = of_two mul_tree (λ _ _ e. e) i x y fits.0 fits.1 p h
+use Rattle.air_symbolic.proofs.Lowering.{each_below, operand-ext-only, HasTree-kept, lowered-kept, lowered-read, ext_only_either, ext_only_negative}
 
 leaf-ext-only : {F EF : Type 0} (t : Option (Tree (ExtLeaf F EF))) → IsExtOnlyLeaf t → HasExtOnly t
-leaf-ext-only None h = absurd h
 leaf-ext-only (Some (leaf_tree a)) h = h
-leaf-ext-only (Some (add_tree t u)) h = absurd h
-leaf-ext-only (Some (sub_tree t u)) h = absurd h
-leaf-ext-only (Some (neg_tree t)) h = absurd h
-leaf-ext-only (Some (mul_tree t u)) h = absurd h
+leaf-ext-only _ h = absurd h
 
 -- a mark that was tested and isn't an extension-only leaf
 pub not-marked : {F EF : Type 0} (p : ExtNodes F EF) (marks : List (Option ℕ)) (k : ℕ) (o : Option ℕ) (b : Bool) → k < length marks → o ≡ get_or marks k o → Decides b (IsMarkedExtOnly p o) → b ≡ false → IsMarkedExtOnly p (get_or marks k None) → ⊥
@@ -91,10 +69,10 @@ module _ {F EF : Type 0} (l : Leaves (ExtLeaf F EF) F) (p : ExtNodes F EF) (r : 
       none-in-node : (i : ℕ) (n : SymbolicExpr (ExtLeaf F EF)) → i < length marks → Marked marks i → tree_at p i ≡ unfold_node (tree_of p.nodes) n → EachOperand (λ j. HasExtOnly (tree_at p j) → ⊥) n → HasExtOnly (unfold_node (tree_of p.nodes) n) → ⊥
       none-in-node i (node.Leaf a) lt m t f h =
           none i lt (subst (λ o. IsMarkedExtOnly p o) (sym m) (subst (λ u. IsExtOnlyLeaf u) (sym t) h))
-      none-in-node i (node.Add x y d) lt m t f h = ⊎_elim f.0 f.1 (ext_only_either add_tree (λ _ _ e. e) _ _ h)
-      none-in-node i (node.Sub x y d) lt m t f h = ⊎_elim f.0 f.1 (ext_only_either sub_tree (λ _ _ e. e) _ _ h)
-      none-in-node i (node.Neg x d) lt m t f h = f (ext_only_negative (tree_of p.nodes x) h)
-      none-in-node i (node.Mul x y d) lt m t f h = ⊎_elim f.0 f.1 (ext_only_either mul_tree (λ _ _ e. e) _ _ h)
+      none-in-node i (node.Add x y d) lt m t f h = ⊎_elim (f 0 x (omega arith)) (f 1 y (omega arith)) (ext_only_either add_tree (λ _ _ e. e) _ _ h)
+      none-in-node i (node.Sub x y d) lt m t f h = ⊎_elim (f 0 x (omega arith)) (f 1 y (omega arith)) (ext_only_either sub_tree (λ _ _ e. e) _ _ h)
+      none-in-node i (node.Neg x d) lt m t f h = f 0 x (omega arith) (ext_only_negative (tree_of p.nodes x) h)
+      none-in-node i (node.Mul x y d) lt m t f h = ⊎_elim (f 0 x (omega arith)) (f 1 y (omega arith)) (ext_only_either mul_tree (λ _ _ e. e) _ _ h)
 
       none-below : (k i : ℕ) → i < k → i < length p.nodes → Marked marks i → HasExtOnly (tree_at p i) → ⊥
       none-below zero i b lt m h = absurd (omega (arith, b))

@@ -2,7 +2,7 @@
 use Rattle.std.proofs.Common.{◌≡◌, ℕ, refl}
 use Rattle.std.specs.Prelude.{Option}
 use Rattle.air_symbolic.specs.Trees.{Tree}
-use Rattle.air_symbolic.specs.Nodes.{unfold_node, OperandsBelow}
+use Rattle.air_symbolic.specs.Nodes.{unfold_node, operands}
 use Rattle.air_symbolic.specs.Numbering.{with_degree}
 use Rattle.air_symbolic.specs.declared.pools.expr.SymbolicExpr.{SymbolicExpr}
 use Rattle.air_symbolic.specs.declared.pools.expr.SymbolicExpr.TheVariants.{Leaf, Add, Sub, Neg, Mul}
@@ -15,12 +15,12 @@ module _ {A : Type 0} where
   unfold-with_degree f (Neg x e) d = refl
   unfold-with_degree f (Mul x y e) d = refl
 
-  pub below-with_degree : (k : ℕ) (n : SymbolicExpr A) (d : ℕ) → OperandsBelow k (with_degree n d) → OperandsBelow k n
-  below-with_degree k (Leaf a) d below = below
-  below-with_degree k (Add x y e) d below = below
-  below-with_degree k (Sub x y e) d below = below
-  below-with_degree k (Neg x e) d below = below
-  below-with_degree k (Mul x y e) d below = below
+  pub operands-with_degree : (n : SymbolicExpr A) (d : ℕ) → operands (with_degree n d) ≡ operands n
+  operands-with_degree (Leaf a) d = refl
+  operands-with_degree (Add x y e) d = refl
+  operands-with_degree (Sub x y e) d = refl
+  operands-with_degree (Neg x e) d = refl
+  operands-with_degree (Mul x y e) d = refl
 
   -- each node states a degree
   pub own-degree : (n : SymbolicExpr A) → (d : ℕ) × (with_degree n d ≡ n)

@@ -1,7 +1,8 @@
 -- What the leaves of an expression mean.
-use Rattle.std.specs.Prelude.{◌≡◌, Option, Some}
+use Rattle.std.specs.Prelude.{◌≡◌, ◌<◌, ◌^◌, Option, Some}
 use Rattle.air_field.specs.Ring.{CommRing}
 use Rattle.air_field.specs.Term.{Term, const_term}
+use Rattle.air_field.specs.Degree.{degree_by, cached_weight}
 use Rattle.air_field.specs.Same.{Same}
 
 -- `sound` says that the base is well formed, `valid` that a leaf names only what the base has.
@@ -20,6 +21,7 @@ pub record Keeps {A F : Type 0} (l m : Leaves A F) : Type 0 where
 
 -- The laws of a kind of leaf as its base grows.
 pub record LeafLaws {U A F : Type 0} (r : CommRing F) (reads : U → Leaves A F) (grows : U → U → Type 0) (empty : U) : Type 0 where
+  pub in_range : (u : U) (a : A) → (reads u).valid a → degree_by cached_weight ((reads u).term a) < 2 ^ 64
   pub constant_is : (u : U) (a : A) (c : F) → (reads u).valid a → (reads u).constant a ≡ Some c → Same r (const_term c) ((reads u).term a)
   pub empty_sound : (reads empty).sound
   pub same : (u : U) → grows u u

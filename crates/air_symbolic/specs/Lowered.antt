@@ -1,6 +1,6 @@
 -- Base numbers for the numbers of an extension pool.
 use Rattle.std.specs.Prelude.{◌≡◌, ℕ, ◌<◌, List, slice_get, slice_index_or, Option, None, Some}
-use Rattle.air_symbolic.specs.Trees.{Tree, leaf_tree, add_tree, sub_tree, neg_tree, mul_tree}
+use Rattle.air_symbolic.specs.Trees.{Tree, leaf_tree}
 use Rattle.air_symbolic.specs.Nodes.{unfold_node, tree_of, NodeFits}
 use Rattle.air_symbolic.specs.Pools.{tree_at, HasTree, size}
 use Rattle.air_symbolic.specs.BaseLeaves.{base_leaves}
@@ -8,17 +8,14 @@ use Rattle.air_symbolic.specs.ExtPool.{ExtNodes}
 use Rattle.air_symbolic.specs.ExtTrees.{IsExtOnly, HasExtOnly, lower}
 use Rattle.air_symbolic.specs.Reach.{EachOperand}
 use Rattle.air_symbolic.specs.declared.pools.expr.SymbolicExpr.{SymbolicExpr}
-use Rattle.air_symbolic.specs.declared.leaves.base_leaf.BaseLeaf.{BaseLeaf}
 use Rattle.air_symbolic.specs.declared.leaves.ext_leaf.ExtLeaf.{ExtLeaf}
+use Rattle.air_symbolic.specs.declared.pools.lower.Counterpart.{Counterpart}
+use Rattle.air_symbolic.specs.declared.pools.lower.Counterpart.TheVariants.{Number, Node}
 
 -- the tree is an extension-only leaf
 abbrev pub IsExtOnlyLeaf : {F EF : Type 0} → Option (Tree (ExtLeaf F EF)) → Type 0
 IsExtOnlyLeaf (Some (leaf_tree a)) = IsExtOnly a
-IsExtOnlyLeaf (Some (add_tree t u)) = ⊥
-IsExtOnlyLeaf (Some (sub_tree t u)) = ⊥
-IsExtOnlyLeaf (Some (neg_tree t)) = ⊥
-IsExtOnlyLeaf (Some (mul_tree t u)) = ⊥
-IsExtOnlyLeaf None = ⊥
+IsExtOnlyLeaf _ = ⊥
 
 -- there is a marked number, and its tree is an extension-only leaf
 abbrev pub IsMarkedExtOnly : {F EF : Type 0} → ExtNodes F EF → Option ℕ → Type 0
@@ -33,9 +30,10 @@ IsLoweredIn p q i o = (b : ℕ) × (o ≡ Some b) × HasTree q.base (lower p.bas
 abbrev pub LoweredAt : {F EF : Type 0} → ExtNodes F EF → List (Option ℕ) → ℕ → Type 0
 LoweredAt p table i = IsLoweredIn p p i (slice_index_or table i None)
 
--- the node n fits the base pool of p, and has the lowered tree of number i of p
-abbrev pub IsLoweredNode : {F EF : Type 0} → ExtNodes F EF → ℕ → SymbolicExpr (BaseLeaf F) → Type 0
-IsLoweredNode p i n = NodeFits base_leaves p.base.nodes n × (unfold_node (tree_of p.base.nodes) n ≡ lower p.base (tree_at p i))
+-- what number i of p is in the base pool: a number, or a node that fits, with the lowered tree
+abbrev pub IsCounterpart : {F EF : Type 0} → ExtNodes F EF → ℕ → Counterpart F → Type 0
+IsCounterpart p i (Number b) = HasTree p.base (lower p.base (tree_at p i)) b
+IsCounterpart p i (Node n) = NodeFits base_leaves p.base.nodes n × (unfold_node (tree_of p.base.nodes) n ≡ lower p.base (tree_at p i))
 
 -- Number i can be lowered: its tree has no extension-only leaf, and the table has its operands lowered.
 pub record CanLower {F EF : Type 0} (p : ExtNodes F EF) (table : List (Option ℕ)) (i : ℕ) : Type 0 where

@@ -1,5 +1,5 @@
 -- A pool's nodes in the order of their numbers, and the tree of each number.
-use Rattle.std.specs.Prelude.{◌≡◌, ℕ, ◌<◌, ◌+◌, max, List, [], ◌∷◌, ◌++◌, length, take, Option, None, Some, option_map, ⊤, slice_get, slice_index_or}
+use Rattle.std.specs.Prelude.{◌≡◌, ℕ, ◌<◌, ◌+◌, ◌^◌, max, List, [], ◌∷◌, ◌++◌, length, take, All, Option, None, Some, option_map, ⊤, slice_get, slice_index_or}
 use Rattle.air_field.specs.Term.{Term, add_term, sub_term, neg_term, mul_term}
 use Rattle.air_field.specs.Degree.{degree_by, cached_weight}
 use Rattle.air_symbolic.specs.Leaves.{Leaves}
@@ -37,7 +37,32 @@ tree_of ns i = slice_index_or (in_turn None unfold_node [] ns) i None
 abbrev pub cached_degree : {A F : Type 0} → Leaves A F → List (SymbolicExpr A) → ℕ → ℕ
 cached_degree l ns i = degree_by cached_weight (term_of l.term (tree_of ns i))
 
--- the degree that a node states
+-- the numbers of a node's operands, in order
+abbrev pub operands : {A : Type 0} → SymbolicExpr A → List ℕ
+operands (Leaf a) = []
+operands (Add x y d) = x ∷ y ∷ []
+operands (Sub x y d) = x ∷ y ∷ []
+operands (Neg x d) = x ∷ []
+operands (Mul x y d) = x ∷ y ∷ []
+
+-- all operands of a node are below k
+abbrev pub OperandsBelow : {A : Type 0} → ℕ → SymbolicExpr A → Type 0
+OperandsBelow k n = All (λ x. x < k) (operands n)
+
+-- if the node is a leaf, it is valid
+abbrev pub IsValidNode : {A : Type 0} → (A → Type 0) → SymbolicExpr A → Type 0
+IsValidNode valid (Leaf a) = valid a
+IsValidNode valid _ = ⊤
+
+-- the degree of a node, from the degrees of leaves and of numbers
+abbrev pub node_degree : {A : Type 0} → (A → ℕ) → (ℕ → ℕ) → SymbolicExpr A → ℕ
+node_degree leaf degree (Leaf a) = leaf a
+node_degree leaf degree (Add x y d) = max (degree x) (degree y)
+node_degree leaf degree (Sub x y d) = max (degree x) (degree y)
+node_degree leaf degree (Neg x d) = degree x
+node_degree leaf degree (Mul x y d) = degree x + degree y
+
+-- the degree that a node states; a leaf's is its term's
 abbrev pub stated_degree : {A F : Type 0} → Leaves A F → SymbolicExpr A → ℕ
 stated_degree l (Leaf a) = degree_by cached_weight (l.term a)
 stated_degree l (Add x y d) = d
@@ -45,26 +70,17 @@ stated_degree l (Sub x y d) = d
 stated_degree l (Neg x d) = d
 stated_degree l (Mul x y d) = d
 
--- the node may follow ns: its operands are among them, and its degree is right
-abbrev pub NodeFits : {A F : Type 0} → Leaves A F → List (SymbolicExpr A) → SymbolicExpr A → Type 0
-NodeFits l ns (Leaf a) = l.valid a
-NodeFits l ns (Add x y d) = (x < length ns) × (y < length ns) × (d ≡ max (cached_degree l ns x) (cached_degree l ns y))
-NodeFits l ns (Sub x y d) = (x < length ns) × (y < length ns) × (d ≡ max (cached_degree l ns x) (cached_degree l ns y))
-NodeFits l ns (Neg x d) = (x < length ns) × (d ≡ cached_degree l ns x)
-NodeFits l ns (Mul x y d) = (x < length ns) × (y < length ns) × (d ≡ cached_degree l ns x + cached_degree l ns y)
+-- The node may follow ns: a leaf is valid, operands are among ns, and the stated degree is right and fits `usize`.
+pub record NodeFits {A F : Type 0} (l : Leaves A F) (ns : List (SymbolicExpr A)) (n : SymbolicExpr A) : Type 0 where
+  pub valid : IsValidNode l.valid n
+  pub below : OperandsBelow (length ns) n
+  pub degree : stated_degree l n ≡ node_degree (λ a. degree_by cached_weight (l.term a)) (cached_degree l ns) n
+  pub in_range : stated_degree l n < 2 ^ 64
 
 -- each node fits the nodes before it, and no node occurs twice
 pub record WellFormed {A F : Type 0} (l : Leaves A F) (ns : List (SymbolicExpr A)) : Type 0 where
   pub fits : (i : ℕ) (n : SymbolicExpr A) → slice_get ns i ≡ Some n → NodeFits l (take i ns) n
   pub once : (i j : ℕ) (n : SymbolicExpr A) → slice_get ns i ≡ Some n → slice_get ns j ≡ Some n → i ≡ j
-
--- all operands of a node are below k
-abbrev pub OperandsBelow : {A : Type 0} → ℕ → SymbolicExpr A → Type 0
-OperandsBelow k (Leaf a) = ⊤
-OperandsBelow k (Add x y d) = (x < k) × (y < k)
-OperandsBelow k (Sub x y d) = (x < k) × (y < k)
-OperandsBelow k (Neg x d) = x < k
-OperandsBelow k (Mul x y d) = (x < k) × (y < k)
 
 -- n is the node with number i
 pub record IsNode {A F : Type 0} (l : Leaves A F) (ns : List (SymbolicExpr A)) (i : ℕ) (n : SymbolicExpr A) : Type 0 where

@@ -1,5 +1,5 @@
 -- The errors of a pool.
-use Rattle.std.specs.Prelude.{Result, Ok, Err, ◌≡◌, ℕ, ◌≤◌, ◌^◌, ⊤}
+use Rattle.std.specs.Prelude.{Result, Ok, Err, ◌≡◌, ℕ, ◌≤◌, ◌<◌, ◌^◌, ⊤}
 use Rattle.air_field.specs.Term.{Term}
 use Rattle.air_field.specs.Degree.{degree_by, cached_weight}
 use Rattle.air_field.specs.declared.errors.RingError.{RingError}
@@ -15,3 +15,8 @@ abbrev pub AnswersDegree : ℕ → Result ℕ RingError → Type 0
 AnswersDegree d (Ok n) = n ≡ d
 AnswersDegree d (Err Memory) = ⊤
 AnswersDegree d (Err DegreeOverflow) = 2 ^ 64 ≤ d
+
+-- the answer is the degree d, if it fits `usize`, and else `DegreeOverflow`
+abbrev pub IsChecked : ℕ → Result ℕ RingError → Type 0
+IsChecked d (Ok n) = (n ≡ d) × (d < 2 ^ 64)
+IsChecked d (Err e) = (e ≡ DegreeOverflow) × (2 ^ 64 ≤ d)

@@ -1,25 +1,16 @@
 -- The numbers of a pool that some roots reach.
-use Rattle.std.specs.Prelude.{◌≡◌, ◌⊎◌, ℕ, List, length, slice_index_or, All, Contains, Option, None, Some, ⊤}
+use Rattle.std.specs.Prelude.{◌≡◌, ◌⊎◌, ℕ, List, length, slice_index_or, All, Contains, Option, None, Some}
 use Rattle.air_symbolic.specs.Leaves.{Leaves}
-use Rattle.air_symbolic.specs.Nodes.{IsNode}
+use Rattle.air_symbolic.specs.Nodes.{operands, IsNode}
 use Rattle.air_symbolic.specs.declared.pools.expr.SymbolicExpr.{SymbolicExpr}
-use Rattle.air_symbolic.specs.declared.pools.expr.SymbolicExpr.TheVariants.{Leaf, Add, Sub, Neg, Mul}
 
 -- each operand of a node has the property
 abbrev pub EachOperand : {A : Type 0} → (ℕ → Type 0) → SymbolicExpr A → Type 0
-EachOperand P (Leaf a) = ⊤
-EachOperand P (Add x y d) = P x × P y
-EachOperand P (Sub x y d) = P x × P y
-EachOperand P (Neg x d) = P x
-EachOperand P (Mul x y d) = P x × P y
+EachOperand P n = All P (operands n)
 
 -- number i is an operand of a node
 abbrev pub IsOperand : {A : Type 0} → ℕ → SymbolicExpr A → Type 0
-IsOperand i (Leaf a) = ⊥
-IsOperand i (Add x y d) = (i ≡ x) ⊎ (i ≡ y)
-IsOperand i (Sub x y d) = (i ≡ x) ⊎ (i ≡ y)
-IsOperand i (Neg x d) = i ≡ x
-IsOperand i (Mul x y d) = (i ≡ x) ⊎ (i ≡ y)
+IsOperand i n = Contains (operands n) i
 
 -- The roots reach a number: it is one of them, or an operand of a node that they reach.
 pub data ReachedFrom {A F : Type 0} (l : Leaves A F) (ns : List (SymbolicExpr A)) (roots : List ℕ) : ℕ → Type 0 where

@@ -32,11 +32,7 @@ term_of f None = ext_const_term []
 -- the constant that the tree equals, if it is one
 abbrev pub tree_constant : {A F : Type 0} → (A → Option F) → Option (Tree A) → Option F
 tree_constant f (Some (leaf_tree a)) = f a
-tree_constant f (Some (add_tree t u)) = None
-tree_constant f (Some (sub_tree t u)) = None
-tree_constant f (Some (neg_tree t)) = None
-tree_constant f (Some (mul_tree t u)) = None
-tree_constant f None = None
+tree_constant f _ = None
 
 -- each leaf of the tree is valid
 abbrev pub AllValid : {A : Type 0} → (A → Type 0) → Tree A → Type 0

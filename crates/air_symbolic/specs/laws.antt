@@ -1,4 +1,5 @@
 -- Laws of what specs/ defines: implementations cite them, and the layers above build on them.
+pub mod Nodes
 pub mod Numbers
 pub mod Pools
 pub mod Sharing

@@ -11,10 +11,11 @@ pub use air_core::{BaseEntry, ExtEntry, SymbolicVariable, SymbolicVariableExt};
 pub use leaves::base_leaf::BaseLeaf;
 pub use leaves::ext_leaf::ExtLeaf;
 pub use leaves::sym_leaf::SymLeaf;
-pub use pools::expr::{ExprId, SymbolicExpr};
+pub use pools::degree_table::checked_degree;
+pub use pools::expr::{ExprId, Operands, SymbolicExpr};
 pub use pools::pool::ExprPool;
 pub use pools::reach::reached_nodes;
-pub use pools::weight::{Degrees, LeafWeight};
+pub use pools::weight::{DegreeTable, Degrees, LeafWeight};
 
 /// A node of an expression of base leaves.
 pub type SymbolicExpression<F> = SymbolicExpr<BaseLeaf<F>>;

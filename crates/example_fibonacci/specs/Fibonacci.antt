@@ -1,5 +1,5 @@
--- The constraints of the Fibonacci AIR.
-use Rattle.std.specs.Prelude.{List, ◌++◌}
+-- The constraints of the Fibonacci AIR, and their labels.
+use Rattle.std.specs.Prelude.{◌≡◌, ℕ, List, [], ◌∷◌, ◌++◌, Bool, if◌then◌else◌, Option, Some, codes, slice_index_or}
 use Rattle.air_audit.specs.Author.{Assertion, Declaration, plain_declaration, current, next, public, first_row, last_row, transition, ◌⊕◌, ◌≐◌, when}
 
 -- the first row is public values 0 and 1; the next a is b, and the next b is a + b; the last b is public value 2
@@ -14,3 +14,12 @@ fibonacci =
 -- two columns, three public values, and nothing besides
 abbrev pub fibonacci_declaration : {F : Type 0} → Declaration F
 fibonacci_declaration = plain_declaration fibonacci 2 3
+
+-- the labels of the constraints, in order
+abbrev pub fibonacci_labels : List (List ℕ)
+fibonacci_labels =
+    codes "fib::first_a" ∷ codes "fib::first_b" ∷ codes "fib::step_a" ∷ codes "fib::step_b" ∷ codes "fib::last_b" ∷ []
+
+-- the text of a constraint's name: its label, or the empty text if the AIR has no labels
+abbrev pub FibonacciSays : Bool → ℕ → Option (List ℕ) → Type 0
+FibonacciSays is_named place text = text ≡ Some (if is_named then slice_index_or fibonacci_labels place [] else [])

@@ -2,7 +2,8 @@
 #![tactic(auto)]
 
 ghost use Rattle.std.specs.Prelude.{◌≡◌, true, false, if◌then◌else◌, []};
-ghost use Rattle.example_fibonacci.specs.Fibonacci.{fibonacci_declaration};
+ghost use Rattle.air_audit.specs.Labels.{LabelledBy};
+ghost use Rattle.example_fibonacci.specs.Fibonacci.{fibonacci, fibonacci_declaration, FibonacciSays};
 
 use air_audit::author::{
     Current, Equal, FirstRow, LastRow, Named, Next, Public, Sum, Transition, When, assert_all,
@@ -67,6 +68,8 @@ impl<F: Copy> BaseAir<F> for Fibonacci {
 }
 
 impl<AB: NamedAirBuilder> Air<AB> for Fibonacci {
+    ghost labels = { λ air a b. LabelledBy AB.labelled (FibonacciSays air.is_named) a b fibonacci };
+
     fn eval(&self, builder: &mut AB) -> Result<(), AirError> {
         let first_a = Named(self.label("fib::first_a"), Equal(Current(0), Public(0)));
         let first_b = Named(self.label("fib::first_b"), Equal(Current(1), Public(1)));

@@ -26,14 +26,16 @@
 //!
 //! | to | call | its promise |
 //! |---|---|---|
-//! | write an AIR in code alone | [`Constraints`] | the AIR records the draft that the calls write |
-//! | the same over an extension | [`ExtConstraints`] | the same, of constraints of both kinds |
+//! | write an AIR in code alone | [`Constraints`] | the AIR records the draft that the calls wrote (tested for the calls themselves) |
+//! | the same over an extension | [`ExtConstraints`] | the same, for constraints of both kinds |
 //! | write one that declares its list | [`author`], [`utils`], [`BaseAir`] | `eval` asserts just the declared list on each builder |
 //! | make a trace | [`trace_of_rows`], [`TraceRows`], [`with_bits`], [`word_with_bits`] | the rows and numbers that were given |
 //! | check it | [`check_constraints`], [`check_all_constraints`] | the first fault; each row and constraint not zero |
+//! | check it with a permutation trace | [`check_all_constraints_with_permutation`] | each row and constraint not zero, the extension's too |
 //! | check a row | [`check_row_with_permutation`] | each constraint that isn't zero there, the extension's too |
 //! | record an AIR | [`get_all_symbolic_constraints`] | of each constraint its polynomial, at no greater degree |
 //! | size the quotient | [`get_max_constraint_degree`] | the degree of what is recorded, as the domain counts |
+//! | compare its shape | [`has_declared_shape`] | as many columns and public values as the AIR declares |
 //! | audit | [`audit_air`] | records, checks and sizes: what is recorded is what is tested |
 //! | fold | `fold_air`, of the crate air_folder | what is folded is what is recorded, by powers of alpha |
 //! | take an AIR in | [`symbolic`], [`from_flat_value`], [`FlatAir`] | what the list spells; its roots are to be zero |
@@ -62,6 +64,7 @@ pub use air_audit::BabyBear;
 pub use air_audit::BaseAir;
 pub use air_audit::BaseEntry;
 pub use air_audit::BaseLeaf;
+pub use air_audit::Beside;
 pub use air_audit::BinomialExtension;
 pub use air_audit::BinomialExtensionField;
 pub use air_audit::BinomialModulus;
@@ -120,6 +123,7 @@ pub use air_audit::RowMajorMatrix;
 pub use air_audit::RowMajorMatrixView;
 pub use air_audit::RowWindow;
 pub use air_audit::SelfExtension;
+pub use air_audit::ShapeError;
 pub use air_audit::Spelled;
 pub use air_audit::SymLeaf;
 pub use air_audit::SymbolicAirBuilder;
@@ -140,6 +144,7 @@ pub use air_audit::audit_air_with_cap;
 pub use air_audit::author;
 pub use air_audit::boundary;
 pub use air_audit::check_all_constraints;
+pub use air_audit::check_all_constraints_with_permutation;
 pub use air_audit::check_constraints;
 pub use air_audit::check_row_with_permutation;
 pub use air_audit::constraint_degree_from_poly_degree;
@@ -151,6 +156,7 @@ pub use air_audit::get_max_constraint_degree;
 pub use air_audit::get_max_constraint_degree_extension;
 pub use air_audit::get_symbolic_constraints;
 pub use air_audit::get_symbolic_constraints_extension;
+pub use air_audit::has_declared_shape;
 pub use air_audit::laws;
 pub use air_audit::record_these;
 pub use air_audit::recorded_air;

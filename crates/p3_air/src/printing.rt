@@ -1,5 +1,5 @@
 //! What an AIR says, and what an audit of it found, printed.
-use air_audit::{Audit, FlatAir, audit_air};
+use air_audit::{Audit, FlatAir, audit_air, has_declared_shape};
 use air_core::AirError;
 use air_field::{PrimeField64, RowMajorMatrix, SelfExtension};
 use air_print::show;
@@ -34,7 +34,8 @@ fn print_found<F: SelfExtension>(rt: &HostRuntime, audit: &Audit<F>) -> io::Resu
 }
 
 /// Audits a trace of an AIR in a domain whose transition selector is a linear polynomial, and prints what it found: the
-/// degree, the number of failures and a line for each. Where the AIR or the audit is refused, it prints why.
+/// degree, the number of failures and a line for each. Where the AIR or the audit is refused, or the trace hasn't the
+/// columns and public values that the AIR declares, it prints why.
 pub fn print_audit<F: SelfExtension + 'static, E: Into<AirError> + Drop>(
     rt: &HostRuntime,
     air: Result<FlatAir<F>, AirError>,
@@ -52,6 +53,9 @@ pub fn print_audit<F: SelfExtension + 'static, E: Into<AirError> + Drop>(
             return println!(rt; "refused: {error}");
         }
     };
+    if let Err(error) = has_declared_shape(&air, &trace, public_values) {
+        return println!(rt; "refused: {error}");
+    }
     match audit_air(rt.alloc(), &air, &trace, public_values, 0) {
         Ok(audit) => print_found(rt, &audit),
         Err(error) => println!(rt; "refused: {error}"),

@@ -1,6 +1,7 @@
 //! The AIRs of tables: a list of constraints, and the other parts of an AIR.
 ghost use Rattle.test_airs.specs.declared.lists.Constraints.TheVariants.{Base, Permutation, Labelled};
 ghost use Rattle.test_airs.specs.TableAirs.{labelled_asserts};
+ghost use Rattle.air_builder.specs.Declaration.{declaration_of};
 ghost use Rattle.air_audit.specs.FlatAirs.{zero_at_roots};
 
 use crate::differing::assert_differing;
@@ -20,46 +21,37 @@ use example_fibonacci::Fibonacci;
 #[derive(Drop)]
 pub struct TableAir<F: Field> {
     pub constraints: Constraints,
-    /// The expressions of the lines and the other parts of the AIR. The parts apply to every list of constraints.
+    /// The expressions of the lines, and what the AIR has beside its constraints, which applies to every list of them.
     pub flat: FlatAir<F>,
-    /// The preprocessed trace.
-    pub table: Option<RowMajorMatrix<F>>,
 }
 
 impl<F: Field> BaseAir<F> for TableAir<F> {
-    ghost declaration = { λ a. record {
-      constraints = elim a.constraints [
-        | Base list ↦ ⟦<BaseList as Declared<F>>⟧.declared list
-            (zero_at_roots a.flat.pool a.flat.roots.items)
-        | Permutation list ↦ ⟦<PermutationList as Declared<F>>⟧.declared list
-            (zero_at_roots a.flat.pool a.flat.roots.items)
-        | Labelled ↦ labelled_asserts
-      ];
-      width = a.flat.width;
-      num_public_values = a.flat.num_public_values;
-      preprocessed = a.table;
-      periodic = a.flat.periodic.items;
-      cells = a.flat.cells.items;
-    } };
+    ghost declaration = { λ a. declaration_of (elim a.constraints [
+      | Base list ↦ ⟦<BaseList as Declared<F>>⟧.declared list
+          (zero_at_roots a.flat.pool a.flat.roots.items)
+      | Permutation list ↦ ⟦<PermutationList as Declared<F>>⟧.declared list
+          (zero_at_roots a.flat.pool a.flat.roots.items)
+      | Labelled ↦ labelled_asserts
+    ]) a.flat.beside };
 
     fn width(&self) -> usize {
-        self.flat.width
+        self.flat.beside.width
     }
 
     fn num_public_values(&self) -> usize {
-        self.flat.num_public_values
+        self.flat.beside.num_public_values
     }
 
     fn preprocessed_trace(&self) -> Option<&RowMajorMatrix<F>> {
-        self.table.as_ref()
+        self.flat.beside.preprocessed.as_ref()
     }
 
     fn periodic_columns(&self) -> &[Vec<F>] {
-        self.flat.periodic.as_slice()
+        self.flat.beside.periodic.as_slice()
     }
 
     fn public_boundary_io(&self) -> &[BoundaryPublic] {
-        self.flat.cells.as_slice()
+        self.flat.beside.cells.as_slice()
     }
 }
 
@@ -71,34 +63,28 @@ pub struct ListAir<'a, F: Field, C> {
 }
 
 impl<'a, F: Field, C: Declared<F>> BaseAir<F> for ListAir<'a, F, C> {
-    ghost declaration = { λ a. record {
-      constraints = C.declared a.list
-          (zero_at_roots a.air.now.flat.pool a.air.now.flat.roots.items);
-      width = a.air.now.flat.width;
-      num_public_values = a.air.now.flat.num_public_values;
-      preprocessed = a.air.now.table;
-      periodic = a.air.now.flat.periodic.items;
-      cells = a.air.now.flat.cells.items;
-    } };
+    ghost declaration = { λ a. declaration_of
+        (C.declared a.list (zero_at_roots a.air.now.flat.pool a.air.now.flat.roots.items))
+        a.air.now.flat.beside };
 
     fn width(&self) -> usize {
-        self.air.flat.width
+        self.air.flat.beside.width
     }
 
     fn num_public_values(&self) -> usize {
-        self.air.flat.num_public_values
+        self.air.flat.beside.num_public_values
     }
 
     fn preprocessed_trace(&self) -> Option<&RowMajorMatrix<F>> {
-        self.air.table.as_ref()
+        self.air.flat.beside.preprocessed.as_ref()
     }
 
     fn periodic_columns(&self) -> &[Vec<F>] {
-        self.air.flat.periodic.as_slice()
+        self.air.flat.beside.periodic.as_slice()
     }
 
     fn public_boundary_io(&self) -> &[BoundaryPublic] {
-        self.air.flat.cells.as_slice()
+        self.air.flat.beside.cells.as_slice()
     }
 }
 

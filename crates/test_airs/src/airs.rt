@@ -62,18 +62,10 @@ impl<'a, F: Field> Airs<'a, F> {
         let NamedPool { pool, .. } = mem::replace(&mut self.pool, none);
         let Parts {
             constraints,
-            width,
-            num_public_values,
-            table,
-            periodic,
-            cells,
+            beside,
         } = parts;
-        let flat = FlatAir::new(pool, roots, width, num_public_values, periodic, cells)?;
-        Ok(TableAir {
-            constraints,
-            flat,
-            table,
-        })
+        let flat = FlatAir::new(pool, roots, beside)?;
+        Ok(TableAir { constraints, flat })
     }
 
     fn push(&mut self, air: TableAir<F>) -> Result<(), Fault> {

@@ -2,7 +2,7 @@
 
 use crate::lists::{BaseList, Constraints, PermutationList};
 use crate::words::{cell_of, trace_of};
-use air_audit::{BoundaryPublic, Field, RowMajorMatrix};
+use air_audit::{Beside, Field};
 use std::alloc::Global;
 use test_lines::words::{count_of, listed_elements};
 use test_lines::{Fault, Why};
@@ -11,11 +11,7 @@ use test_lines::{Fault, Why};
 #[derive(Drop)]
 pub struct Parts<F: Field> {
     pub constraints: Constraints,
-    pub width: usize,
-    pub num_public_values: usize,
-    pub table: Option<RowMajorMatrix<F>>,
-    pub periodic: Vec<Vec<F>>,
-    pub cells: Vec<BoundaryPublic>,
+    pub beside: Beside<F>,
 }
 
 // The constraints of a name.
@@ -36,37 +32,33 @@ impl<F: Field> Parts<F> {
     pub fn new(alloc: Global) -> Self {
         Parts {
             constraints: Constraints::Base(BaseList::Lines),
-            width: 0,
-            num_public_values: 0,
-            table: None,
-            periodic: Vec::new(alloc),
-            cells: Vec::new(alloc),
+            beside: Beside::new(alloc, 0, 0),
         }
     }
 
     // Sets a count.
     fn set_count(&mut self, key: &str, count: usize) {
         match key {
-            "width" => self.width = count,
-            "public" => self.num_public_values = count,
+            "width" => self.beside.width = count,
+            "public" => self.beside.num_public_values = count,
             _ => self.constraints = Constraints::Base(BaseList::Steep(count)),
         }
     }
 
     fn set_table(&mut self, value: &str) -> Result<(), Fault> {
-        let table = trace_of(*self.periodic.allocator(), value)?;
-        self.table = Some(table);
+        let table = trace_of(*self.beside.periodic.allocator(), value)?;
+        self.beside.preprocessed = Some(table);
         Ok(())
     }
 
     fn push_periodic(&mut self, value: &str) -> Result<(), Fault> {
-        let column = listed_elements(*self.periodic.allocator(), value)?;
-        Ok(self.periodic.push(column)?)
+        let column = listed_elements(*self.beside.periodic.allocator(), value)?;
+        Ok(self.beside.periodic.push(column)?)
     }
 
     fn push_cell(&mut self, value: &str) -> Result<(), Fault> {
         let cell = cell_of(value)?;
-        Ok(self.cells.push(cell)?)
+        Ok(self.beside.cells.push(cell)?)
     }
 
     /// Sets the part that a word `KEY:VALUE` gives.

@@ -2,7 +2,7 @@
 //! row.
 ghost use Rattle.std.specs.Prelude.{ℕ, ◌≤◌, All, IfOk, OnOk};
 
-use air_audit::{FlatAir, finish_recording, recorded_air};
+use air_audit::{Beside, FlatAir, finish_recording, recorded_air};
 use air_builder::{AirBuilder, AirError};
 use air_core::{BaseEntry, SymbolicVariable};
 use air_field::{
@@ -173,7 +173,7 @@ fn gadget_recording<F: Field>(
 // The AIR of a gadget's recording.
 fn gadget_air<F: Field>(alloc: Global, gadget: Gadget, width: usize) -> Result<FlatAir<F>, Fault> {
     let recorded = gadget_recording::<F>(alloc, gadget, width)?;
-    Ok(recorded_air(recorded, width, 0, Vec::new(alloc), Vec::new(alloc))?)
+    Ok(recorded_air(recorded, Beside::new(alloc, width, 0))?)
 }
 
 fn report_of<'a, F: Field + 'static>(

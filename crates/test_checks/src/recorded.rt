@@ -4,8 +4,8 @@ ghost use Rattle.std.specs.Prelude.{IfOk};
 use crate::reports::{given_of, show_audit};
 use air_audit::author::{Boolean, Current, Equal, Next, Sum, Transition, When};
 use air_audit::{
-    AirBuilder, AirError, AirLayout, ExprPool, Field, FlatAir, Recorded, SymbolicAirBuilder,
-    finish_recording, record_these, recorded_air,
+    AirBuilder, AirError, AirLayout, Beside, ExprPool, Field, FlatAir, Recorded,
+    SymbolicAirBuilder, finish_recording, record_these, recorded_air,
 };
 use std::alloc::Global;
 use test_lines::Fault;
@@ -44,7 +44,7 @@ fn record_counter<F: Field>(alloc: Global) -> Result<Recorded<F, F>, AirError> {
 
 // The AIR of a recording, for a trace of two columns.
 fn air_of<F: Field>(alloc: Global, recorded: Recorded<F, F>) -> Result<FlatAir<F>, AirError> {
-    recorded_air(recorded, 2, 0, Vec::new(alloc), Vec::new(alloc))
+    recorded_air(recorded, Beside::new(alloc, 2, 0))
 }
 
 /// Adds the audit of the recorded counter on a trace.

@@ -65,14 +65,6 @@ pub fn show_check<'a, F: Field + 'static, A: Air<DebugConstraintBuilder<'a, F, F
     }
 }
 
-// The AIR with this preprocessed trace, if there is one.
-fn with_table<F: Field>(air: FlatAir<F>, table: Option<RowMajorMatrix<F>>) -> FlatAir<F> {
-    match table {
-        Some(table) => air.with_preprocessed(table),
-        None => air,
-    }
-}
-
 /// Adds the answer of a check of an object's trace.
 pub fn show_flat_check<F: PrimeField64 + 'static>(
     alloc: Global,
@@ -82,18 +74,11 @@ pub fn show_flat_check<F: PrimeField64 + 'static>(
 ) -> Result<(), Fault> {
     let value = value_of(alloc, object)?;
     let FlatInput {
-        pool,
-        roots,
-        main,
-        public_values,
-        periodic,
-        cells,
-        preprocessed,
-        cap,
-        ..
+        constraints,
+        beside,
+        trial,
     } = flat_input_from::<F>(alloc, &value)?;
-    let (width, count) = (main.width(), public_values.len());
-    let air = FlatAir::new(pool, roots, width, count, periodic, cells)?;
-    let air = with_table(air, preprocessed);
-    show_check(alloc, call, &air, &main, &public_values, cap, text)
+    let air = FlatAir::new(constraints.pool, constraints.roots, beside)?;
+    let (main, public_values) = (&trial.main, &trial.public_values);
+    show_check(alloc, call, &air, main, public_values, trial.cap, text)
 }

@@ -44,33 +44,33 @@ fn show_labels(labels: &[String], text: &mut String) -> Result<(), Fault> {
 // Adds the periodic columns, boundary values, cap, weight and labels.
 fn show_rest<F: Number>(input: &FlatInput<F>, text: &mut String) -> Result<(), Fault> {
     text.push_str(" periodic")?;
-    for column in &input.periodic {
+    for column in &input.beside.periodic {
         text.push_str(" ")?;
         show_elements(column, text)?;
     }
-    for cell in &input.cells {
+    for cell in &input.beside.cells {
         write!(text, " {cell:?}")?;
     }
-    if let Some(cap) = input.cap {
+    if let Some(cap) = input.trial.cap {
         write!(text, " cap {cap}")?;
     }
-    let weight = input.transition_weight;
+    let weight = input.trial.transition_weight;
     write!(text, " weight {weight}")?;
-    show_labels(&input.labels, text)
+    show_labels(&input.constraints.labels, text)
 }
 
 // Adds all members of an input. Its expressions are shown as the number of nodes and the ids of the constraints.
 fn show_whole<F: Number>(input: &FlatInput<F>, text: &mut String) -> Result<(), Fault> {
-    show_rows(&input.main, text)?;
-    if let Some(table) = &input.preprocessed {
+    show_rows(&input.trial.main, text)?;
+    if let Some(table) = &input.beside.preprocessed {
         text.push_str(" preprocessed ")?;
         show_rows(table, text)?;
     }
     text.push_str(" public ")?;
-    show_elements(&input.public_values, text)?;
-    let nodes = input.pool.len();
+    show_elements(&input.trial.public_values, text)?;
+    let nodes = input.constraints.pool.len();
     write!(text, " nodes {nodes}")?;
-    show_roots(&input.roots, text)?;
+    show_roots(&input.constraints.roots, text)?;
     show_rest(input, text)
 }
 

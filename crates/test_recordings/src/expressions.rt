@@ -78,8 +78,7 @@ pub trait ShownLeaf: SymLeaf {
         depth: usize,
         inside: bool,
         text: &mut String,
-    ) -> Result<(), Fault>
-        requires { (Self.reads base.now).sound };
+    ) -> Result<(), Fault>;
 }
 
 impl<F: Number> ShownLeaf for BaseLeaf<F> {
@@ -132,7 +131,6 @@ fn show_expression<A: ShownLeaf>(
 ) -> Result<(), Fault>
     requires { FitsBase A.reads pool.now }
 {
-    pool.nodes_fit();
     if depth == 0 || !pool.contains(id) {
         text.push_str("..")?;
         return Ok(());

@@ -1,31 +1,24 @@
 -- The degree of an audit is the one that air_recording infers for the trace: its clauses give `IsDegreeFor`.
 use Rattle.std.proofs.Common.{◌≡◌, ℕ, zero, suc, ◌+◌, ◌-◌, ◌*◌, ◌<◌, ◌≤◌, ◌^◌, max, List, [], ◌∷◌, sym, subst, arith}
 use Rattle.std.proofs.Math.Nat.{max-eq_left, max-le, le-max_left, le-max_right, mul-le-mul_right}
-use Rattle.std.proofs.lemmas.Grind.{div_ceil_times}
-use Rattle.std.specs.Int.{div_ceil}
 use Rattle.air_field.specs.Term.{Leaf, Term}
 use Rattle.air_field.specs.Degree.{degree_by, cached_weight, transition_weight, trace_weight, greatest_degree, quotient_degree, inferred_degree}
 use Rattle.air_recording.specs.Bounds.{bound_of, DegreesWithin, IsDegreeFor}
 use Rattle.air_recording.specs.Inferred.{periods_of}
+use Rattle.air_recording.specs.laws.Bounds.{quotient_reaches}
 use Rattle.air_audit.specs.Theorem.{Instance, row_count, domain, degree_in, BoundsDegrees, IsLeast}
-
-quotient_of : (k n : ℕ) → quotient_degree (suc k) n ≡ div_ceil k (max (n - 1) 1)
-quotient_of k n = Prim.grind arith
-
--- for the quotient degree d the bound d (n - 1) + 1 is at least the degree of the dividend
-quotient_reaches : (p n : ℕ) → 2 ≤ n → p ≤ quotient_degree p n * (n - 1) + 1
-quotient_reaches zero n h = omega arith
-quotient_reaches (suc k) n h =
-    let m : max (n - 1) 1 ≡ n - 1 = max-eq_left (omega (arith, h)) in
-    let b = div_ceil_times k (n - 1) (omega (arith, h)) in
-    subst (λ x. suc k ≤ x * (n - 1) + 1) (sym (quotient_of k n)) (subst (λ x. suc k ≤ div_ceil k x * (n - 1) + 1) (sym m) (omega (arith, b.0)))
 
 inferred_bounds : {F : Type 0} (n : ℕ) (periods : List ℕ) (ts : List (Term F)) → 2 ≤ n → greatest_degree (trace_weight n periods) ts ≤ inferred_degree n periods ts * (n - 1) + 1
 inferred_bounds n [] ts h =
     let p = greatest_degree (trace_weight n []) ts in
     let q = quotient_degree p n in
-    omega (arith, quotient_reaches p n h, mul-le-mul_right (n - 1) (le-max_left q (greatest_degree cached_weight ts)))
-inferred_bounds n (x ∷ periods) ts h = quotient_reaches (greatest_degree (trace_weight n (x ∷ periods)) ts) n h
+    let rows : max (n - 1) 1 ≡ n - 1 = max-eq_left (omega (arith, h)) in
+    let reached : p ≤ q * (n - 1) + 1 = subst (λ m. p ≤ q * m + 1) rows (quotient_reaches p n) in
+    omega (arith, reached, mul-le-mul_right (n - 1) (le-max_left q (greatest_degree cached_weight ts)))
+inferred_bounds n (x ∷ periods) ts h =
+    let p = greatest_degree (trace_weight n (x ∷ periods)) ts in
+    let rows : max (n - 1) 1 ≡ n - 1 = max-eq_left (omega (arith, h)) in
+    subst (λ m. p ≤ quotient_degree p n * m + 1) rows (quotient_reaches p n)
 
 -- the greatest degree bounds each degree, and is the least bound
 each_within : {F : Type 0} (w : Leaf → ℕ) (n : ℕ) (ts : List (Term F)) → greatest_degree w ts ≤ n → DegreesWithin w n ts
@@ -39,7 +32,7 @@ greatest_within_all w n (t ∷ ts) h = max-le (h 0 t (omega arith)) (greatest_wi
 
 module _ {F : Type 0} (x : Instance F) (ts : List (Term F)) (d : ℕ) where
   -- the degree in the clauses `degree` and `least` of `audit_air`
-  pub is_degree_for : (w : ℕ) → d ≡ degree_in w x ts → greatest_degree (domain w x).weight ts < 2 ^ 64
+  pub is_degree_for : (w : ℕ) → d ≡ degree_in w x ts → degree_in w x ts < 2 ^ 64
       → (3 ≤ row_count x → IsLeast (BoundsDegrees (domain w x) ts) d)
       → IsDegreeFor w (row_count x) (periods_of x.air.periodic) ts d
   is_degree_for zero value fits least =

@@ -1,5 +1,5 @@
 -- That a plan is one of roots of both pools has at most one proof.
-use Rattle.std.specs.Prelude.{ℕ, List, slice_index_or, Option, None, Some}
+use Rattle.std.specs.Prelude.{ℕ, List, Option, None, Some}
 use Rattle.std.proofs.Props.{props}
 use Rattle.air_field.specs.Extension.{Basis}
 use Rattle.air_core.specs.declared.variables.ext_entry.ExtEntry.{ExtEntry}
@@ -8,27 +8,17 @@ use Rattle.air_symbolic.specs.BaseLeaves.{base_leaves}
 use Rattle.air_symbolic.specs.ExtLeaves.{ext_reads}
 use Rattle.air_symbolic.specs.ExtPool.{ExtNodes}
 use Rattle.air_symbolic.specs.Leaves.{Leaves}
-use Rattle.air_symbolic.specs.Reach.{EachOperand}
 use Rattle.air_symbolic.specs.declared.leaves.ext_leaf.ExtLeaf.{ExtLeaf}
 use Rattle.air_symbolic.specs.declared.leaves.ext_leaf.ExtLeaf.TheVariants as leaf
 use Rattle.air_symbolic.specs.declared.pools.expr.SymbolicExpr.{SymbolicExpr}
 use Rattle.air_symbolic.specs.declared.pools.expr.SymbolicExpr.TheVariants as node
 use Rattle.air_audit.specs.declared.flat.root.Root.{Root}
 use Rattle.air_audit.specs.declared.flat.step.Step.{Step}
-use Rattle.air_audit.specs.Plans.{IsPlaceOf}
 use Rattle.air_audit.specs.ExtPlans.{IsOfExtWindow, NodeInWindow, InWindow, IsOrder, IsExtPlan}
 use Rattle.air_audit.specs.laws.Plans.{IsPlan-prop}
 
-module _ {A : Type 0} (numbers table : List ℕ) (k : ℕ) where
-  place-prop : (n : SymbolicExpr A) → IsProp (EachOperand (λ i. IsPlaceOf numbers k (slice_index_or table i 0) i) n)
-  place-prop (node.Leaf a) = hlevel props
-  place-prop (node.Add x y d) = hlevel props
-  place-prop (node.Sub x y d) = hlevel props
-  place-prop (node.Neg x d) = hlevel props
-  place-prop (node.Mul x y d) = hlevel props
-
 IsOrder-prop : {A F : Type 0} (l : Leaves A F) (ns : List (SymbolicExpr A)) (roots numbers table : List ℕ) → IsProp (IsOrder l ns roots numbers table)
-IsOrder-prop {A = A} l ns roots numbers table = hlevel (props, place-prop {A = A} numbers table)
+IsOrder-prop l ns roots numbers table = hlevel props
 
 entry-prop : (e : ExtEntry) → IsProp (IsOfExtWindow e)
 entry-prop (Permutation o) = hlevel props
@@ -39,10 +29,7 @@ node-prop : {F EF : Type 0} (n : SymbolicExpr (ExtLeaf F EF)) → IsProp (NodeIn
 node-prop (node.Leaf (leaf.Base i)) = hlevel props
 node-prop (node.Leaf (leaf.ExtVariable v)) = entry-prop v.entry
 node-prop (node.Leaf (leaf.ExtConstant c)) = hlevel props
-node-prop (node.Add x y d) = hlevel props
-node-prop (node.Sub x y d) = hlevel props
-node-prop (node.Neg x d) = hlevel props
-node-prop (node.Mul x y d) = hlevel props
+node-prop _ = hlevel props
 
 window-prop : {F EF : Type 0} (o : Option (SymbolicExpr (ExtLeaf F EF))) → IsProp (InWindow o)
 window-prop None = hlevel props

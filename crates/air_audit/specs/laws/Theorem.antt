@@ -9,7 +9,7 @@ use Rattle.std.proofs.lemmas.Option.{slice_get-map, slice_get_cases, slice_get_w
 use Rattle.std.proofs.lemmas.Simd.{map-map}
 use Rattle.air_field.specs.Ring.{CommRing, self_algebra}
 use Rattle.air_field.specs.Extension.{Basis}
-use Rattle.air_field.specs.Grid.{Grid}
+use Rattle.air_field.specs.Grid.{Grid, table_grid}
 use Rattle.air_field.specs.Term.{Leaf, preprocessed, main, periodic, public, first_row, last_row, transition, permutation, challenge, permutation_value, Term}
 use Rattle.air_field.specs.Degree.{cached_weight}
 use Rattle.air_field.specs.Assignment.{IsMissing, row_or_none, row_assignment, trace_shape}
@@ -34,14 +34,14 @@ use Rattle.air_recording.specs.Layouts.{air_layout, layout_shape}
 use Rattle.air_recording.specs.Recorded.{RecordsTerm, RecordingAnswers, terms_of}
 use Rattle.air_recording.specs.Recording.{OverflowsDegree}
 use Rattle.air_recording.specs.Recordings.{Recording}
-use Rattle.air_report.specs.Cells.{differing_cells, label_text, bytes_of_text, IsCellFault}
+use Rattle.air_report.specs.Cells.{violated_cells as reported_cells, label_text, bytes_of_text, IsCellFault}
 use Rattle.air_report.specs.Checks.{Fits, RowRefuses}
-use Rattle.air_report.specs.Instances.{instance_trace, table_grid}
+use Rattle.air_report.specs.Instances.{instance_trace}
 use Rattle.air_report.specs.Report.{all_places, assertion_value, place, report_of}
 use Rattle.air_report.specs.RowRefusals.{IsFull}
 use Rattle.air_report.specs.Shapes.{FitsHeight, IsShapeFault, PeriodsFitBelow, table_height}
 use Rattle.air_report.specs.declared.debug.failure.ConstraintFailure.{ConstraintFailure}
-use Rattle.air_audit.specs.Theorem.{Instance, row_count, entry_at, read_at, shape_with, IsPeriodOf, FixedColumnsFit, AreProperBelow, ext_leaf_term, recorded_base, recorded_ext, terms_in, base_constraints, ext_constraints, nonzero_places, violations, RecordingRefuses, IsRecordable, FixedColumnsRefuse, EvaluationRefuses, IsFaultOfCell, CellsRefuse}
+use Rattle.air_audit.specs.Theorem.{Instance, row_count, entry_at, read_at, shape_with, IsPeriodOf, FixedColumnsFit, AreProperBelow, ext_leaf_term, recorded_base, recorded_ext, terms_in, base_constraints, ext_constraints, nonzero_places, violated_cells, RecordingRefuses, IsRecordable, FixedColumnsRefuse, EvaluationRefuses, IsFaultOfCell, CellsRefuse}
 
 -- ---- reading a row
 
@@ -75,9 +75,9 @@ module _ {F : Type 0} (r : CommRing F) (x : Instance F) where
   nonzero_places_are eq =
       ap (λ (s : ℕ → Leaf → F). map place (filter (λ p. not (eq (assertion_value r (s p.0) p.1.1) r.zero)) (all_places (row_count x) x.air.constraints))) (λ j i l. read_at_is i l j)
 
-  -- `violations` are the differing cells
-  pub violations_are : (eq : F → F → Bool) → violations r eq x ≡ differing_cells r eq x.main x.public x.air.cells
-  violations_are eq =
+  -- `violated_cells` are those that a check reports
+  pub violated_cells_are : (eq : F → F → Bool) → violated_cells r eq x ≡ reported_cells r eq x.main x.public x.air.cells
+  violated_cells_are eq =
       ap (λ (f : BoundaryPublic → F). filter (λ c. not (eq (f c.1) (slice_index_or x.public c.1.public_value r.zero))) (enumerate_from 0 x.air.cells)) (λ j cell. entry_is x.main (row_of cell.end (row_count x)) cell.column j)
 
 text_is : (o : Option (String Global)) → option_map (λ s. string_bytes s) o ≡ bytes_of_text o

@@ -1,6 +1,6 @@
 //! The labels of roots.
-ghost use Rattle.std.specs.Prelude.{◌≡◌, Some, ⊤};
-ghost use Rattle.air_audit.specs.RootLabels.{root_label};
+ghost use Rattle.std.specs.Prelude.{◌≡◌, ⊤};
+ghost use Rattle.air_audit.specs.RootLabels.{root_label, RootSays};
 
 use air_builder::Name;
 use std::alloc::AllocError;
@@ -27,7 +27,7 @@ impl<'a> Name for RootLabel<'a> {
 
     ghost can_evaluate = { λ _. ⊤ };
 
-    ghost displays = { λ name text. text ≡ Some (root_label name.labels.now name.root) };
+    ghost displays = { λ name. RootSays name.labels.now name.root };
 
     fn evaluate(self) -> Result<&'a str, AllocError> {
         Ok(label_at(self.labels, self.root))

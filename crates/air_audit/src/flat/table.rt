@@ -7,7 +7,9 @@ ghost use Rattle.air_core.specs.declared.errors.AirError.{AirError};
 ghost use Rattle.air_builder.specs.Assertion.{Assertion};
 ghost use Rattle.air_builder.specs.Builders.{MeansIn};
 ghost use Rattle.air_builder.specs.Refusals.{PartOf};
+ghost use Rattle.air_builder.specs.Labels.{LabelledEach};
 ghost use Rattle.air_audit.specs.Plans.{number_at, IsPlan};
+ghost use Rattle.air_audit.specs.RootLabels.{RootSays};
 ghost use Rattle.air_builder.specs.Batches.{AssertedEachIn, OrMemory};
 ghost use Rattle.air_audit.specs.Tables.{IsMadeIn, HasAt, AssertsAt, TableMade, MakesAllOrMemory};
 
@@ -91,9 +93,11 @@ pub(crate) fn assert_places<AB: NamedAirBuilder>(
 ) -> Result<(), AirError>
     requires ready { AB.ready builder.old }
     requires of_ring { All (HasAt (AB.Ring.has (AB.ring_of builder.old)) table.now) places.now }
-    ensures { AssertedEachIn ⟦<AB as View>⟧.view
+    ensures asserted { AssertedEachIn ⟦<AB as View>⟧.view
         (AssertsAt (MeansIn ⟦<AB as View>⟧.view) table.now) builder.old builder.new places.now
         result }
+    ensures labels { LabelledEach (AssertsAt (MeansIn ⟦<AB as View>⟧.view) table.now) AB.labelled
+        (RootSays labels.now) builder.old builder.new places.now result }
 {
     for (root, place) in places.iter().enumerate() {
         builder.assert_zero_named(expression_at(table, *place), RootLabel { labels, root })?;

@@ -190,6 +190,9 @@ impl<AB: NamedExtensionBuilder, N: Label, C: ExtClaim<AB>> Constraint<AB> for Ex
 
     ghost usable = { λ s b. C.usable s.1 b };
 
+    ghost labels = { λ s _ g a b. IsLabelled AB.labelled (N.displays s.0) a b
+        (Extension (g (C.ext_claims s.1))) };
+
     #[inline(always)]
     fn assert_under<K: Condition<AB>>(&self, builder: &mut AB, condition: &K) -> AirResult
         requires ready { AB.ready builder.old }
@@ -198,7 +201,7 @@ impl<AB: NamedExtensionBuilder, N: Label, C: ExtClaim<AB>> Constraint<AB> for Ex
             builder.old }
         ensures asserted { AssertedIn ⟦<AB as View>⟧.view builder.old builder.new result
             (ext_is_zero (K.ext_under condition.now (C.ext_claims self.now.1))) }
-        ensures label { OnOk result (IsLabelled AB.labelled (N.displays self.now.0) builder.old
+        ensures labelled { OnOk result (IsLabelled AB.labelled (N.displays self.now.0) builder.old
             builder.new (Extension (K.ext_under condition.now (C.ext_claims self.now.1)))) }
         ensures no_label { OnErr result (AB.labelled builder.old builder.new []) }
     {

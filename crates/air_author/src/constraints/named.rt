@@ -39,6 +39,9 @@ impl<AB: NamedAirBuilder, N: Label, C: Claim<AB>> Constraint<AB> for Named<N, C>
 
     ghost usable = { λ s b. C.usable s.1 b };
 
+    ghost labels = { λ s f _ a b. IsLabelled AB.labelled (N.displays s.0) a b
+        (Base (f (C.claims s.1))) };
+
     #[inline(always)]
     fn assert_under<K: Condition<AB>>(&self, builder: &mut AB, condition: &K) -> AirResult
         requires ready { AB.ready builder.old }
@@ -47,7 +50,7 @@ impl<AB: NamedAirBuilder, N: Label, C: Claim<AB>> Constraint<AB> for Named<N, C>
             builder.old }
         ensures asserted { AssertedIn ⟦<AB as View>⟧.view builder.old builder.new result
             (is_zero (K.under condition.now (C.claims self.now.1))) }
-        ensures label { OnOk result (IsLabelled AB.labelled (N.displays self.now.0) builder.old
+        ensures labelled { OnOk result (IsLabelled AB.labelled (N.displays self.now.0) builder.old
             builder.new (Base (K.under condition.now (C.claims self.now.1)))) }
         ensures no_label { OnErr result (AB.labelled builder.old builder.new []) }
     {

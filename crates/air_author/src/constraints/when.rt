@@ -18,6 +18,9 @@ impl<AB: AirBuilder, S: Expression<AB>, C: Constraint<AB>> Constraint<AB> for Wh
 
     ghost usable = { λ s b. S.usable s.0 b × C.usable s.1 b };
 
+    ghost labels = { λ s f g. C.labels s.1 (λ t. f (S.term s.0 ⊙ t))
+        (λ t. g (t ⊙ S.term s.0)) };
+
     #[inline(always)]
     fn assert_under<K: Condition<AB>>(&self, builder: &mut AB, condition: &K) -> AirResult {
         self.1.assert_under(builder, &Where(condition, &self.0))

@@ -1,5 +1,5 @@
 //! Operations on expressions.
-ghost use Rattle.air_field.specs.Algebra.{double_term, bool_check_term};
+ghost use Rattle.air_field.specs.Algebra.{double_term, bool_check_term, xor_term};
 ghost use Rattle.air_builder.specs.Notation.{negative, ◌⊕◌, ◌⊖◌, ◌⊙◌};
 ghost use Rattle.air_author.specs.Expressions.{AlwaysAfter, MakesIn, MakesBothIn};
 
@@ -147,6 +147,22 @@ impl<AB: AirBuilder, X: Expression<AB>, Y: Expression<AB>> Expression<AB> for Pr
     #[inline(always)]
     fn make(&self, builder: &mut AB) -> AirResult<AB::Expr> {
         make_product(builder, &self.0, &self.1)
+    }
+}
+
+/// x + y - 2xy, the xor of two bits. A ring of values skips the multiplications when both are 0 or 1.
+#[derive(Clone, Copy, Drop)]
+pub struct Xor<X, Y>(pub X, pub Y);
+
+impl<AB: AirBuilder, X: Expression<AB>, Y: Expression<AB>> Expression<AB> for Xor<X, Y> {
+    ghost term = { λ s. xor_term (X.term s.0) (Y.term s.1) };
+
+    ghost usable = { λ s b. X.usable s.0 b × Y.usable s.1 b };
+
+    #[inline(always)]
+    fn make(&self, builder: &mut AB) -> AirResult<AB::Expr> {
+        let (x, y) = make_both(builder, &self.0, &self.1)?;
+        to_air_result(builder.ring().xor(x, y))
     }
 }
 

@@ -1,6 +1,6 @@
 -- Growth under labels.
 use Rattle.std.specs.Prelude.{⊤}
-use Rattle.std.proofs.Common.{◌≡◌, ◌<◌, ◌≤◌, ℕ, ◌+◌, List, [], ◌∷◌, ◌++◌, length, take, slice_index_or, Option, Result, Ok, Err, refl, ap, subst, sym, ◌∙◌, arith, length-append, append-nil}
+use Rattle.std.proofs.Common.{◌≡◌, ◌<◌, ◌≤◌, ℕ, ◌+◌, List, [], ◌∷◌, ◌++◌, length, take, slice_index_or, Option, Result, Ok, Err, OnOk, refl, ap, subst, sym, ◌∙◌, arith, length-append, append-nil}
 use Rattle.std.proofs.lemmas.List.{take_more, take_all, length-take-le}
 use Rattle.std.proofs.lemmas.Result.{err_from_is_err_and}
 use Rattle.std.specs.Result.{IsErrAnd}
@@ -13,11 +13,11 @@ use Rattle.air_builder.specs.Assertion.{Assertion}
 use Rattle.air_builder.specs.Batches.{AssertsOf, AssertsOfBoth, AssertedEach}
 use Rattle.air_builder.specs.Builders.{MeansIn, BuilderView, RingLaws, BuilderLaws}
 use Rattle.air_builder.specs.Refusals.{PartOf}
-use Rattle.air_builder.specs.Labels.{Label, Unasked, Shown, Labelled, IsSaid, AreSaidFrom, GrewWithoutLabels, LabelledByEach, LabelledByBeginning, LabelledEach, NamedLaws}
+use Rattle.air_builder.specs.Labels.{Label, Unasked, Shown, Labelled, IsSaid, AreSaidFrom, GrewWithoutLabels, LabelledByEach, LabelledByBeginning, LabelledEach, LabelledBy, NamedLaws}
 use Rattle.air_builder.specs.laws.Batches.{grew_one, grew_none}
 use Rattle.air_builder.specs.laws.Labels.{one_label, labelled_one, no_label}
 use Rattle.air_builder.specs.laws.Growth.{lent, lent_asserted, making_refused, made_of, made_of_both, refused_of, refused_of_both}
-use Rattle.std.proofs.lemmas.Slice.Zip.{AllZip-long}
+use Rattle.std.proofs.lemmas.Slice.Zip.{AllZip-long, firsts-zip, seconds-zip}
 use Rattle.air_builder.specs.laws.Zips.{AllZip-parts, AllZip-nil}
 
 IsSaid-weaker : {says others : Option (List ℕ) → Type 0} → ((text : Option (List ℕ)) → others text → says text)
@@ -209,3 +209,24 @@ module _ {S R E F : Type 0} {view : BuilderView S R E F} {labelled : S → S →
     both_unnamed {f = f} {result = result} inside m is =
         let i = err_from_is_err_and result is in
         rw (i.1, i.2) (making_unnamed laws named p e (air_error f) (refused_of_both ring laws kind inside p op f through m))
+
+-- An AIR that asserts a list under labels.
+module _ {S F : Type 0} {grew : S → S → List (Assertion F) → Type 0} {labelled : S → S → List (Labelled F) → Type 0}
+    (named : NamedLaws grew labelled) {says : ℕ → Option (List ℕ) → Type 0} where
+  -- of no assertions none is labelled
+  pub none_labelled : (a : S) → grew a a [] → LabelledBy labelled says a a []
+  none_labelled a g = record { list = []; asserted = refl; said = tt; grown = named.labelled_nothing a a g }
+
+  -- the elements were made, and then asserted under labels: so were the assertions that they make
+  pub list_labelled : {I : Type 0} (asserts : S → I → Assertion F → Type 0) (a b d : S) (xs : List I)
+      (ss : List (Assertion F)) (r : Result ⊤ AirError) → grew a b [] → AllZip (asserts b) xs ss
+      → LabelledEach asserts labelled says b d xs r → OnOk r (LabelledBy labelled says a d ss)
+  list_labelled asserts a b d xs ss (Ok u) g each h =
+      let as_long : length h.ok.labels ≡ length ss = h.ok.as_many ∙ sym (AllZip-long (asserts b) xs ss each) in
+      record {
+        list = zip ss h.ok.labels;
+        asserted = firsts-zip ss h.ok.labels as_long;
+        said = subst (λ ls. AreSaidFrom says 0 ls) (sym (seconds-zip ss h.ok.labels as_long)) h.ok.said;
+        grown = named.labelled_joined a b d [] (zip ss h.ok.labels) (named.labelled_nothing a b g) (h.ok.grown ss each);
+      }
+  list_labelled asserts a b d xs ss (Err e) g each h = tt

@@ -1,5 +1,5 @@
 //! AIRs.
-ghost use Rattle.std.specs.Prelude.{◌≡◌, None, false, length, IfOk, IfErr};
+ghost use Rattle.std.specs.Prelude.{◌≡◌, None, false, length, IfOk, IfErr, OnOk, ⊤};
 ghost use Rattle.std.specs.List.{range_with_len};
 ghost use Rattle.std.specs.Option.{option_copied};
 ghost use Rattle.air_builder.specs.Batches.{Evaluates};
@@ -168,9 +168,14 @@ pub trait BaseAir<F: Copy> {
 /// term names an entry that the builder lacks. It fails only as the builder's `refuses` allows of that list, or with
 /// the AIR's own `Memory`. After a failure the builder has grown by a strict prefix of the list.
 pub trait Air<AB: AirBuilder>: BaseAir<AB::F> {
+    /// What the AIR says of its labels: a relation of the builders before and after an `eval` that is Ok. By default
+    /// it says nothing.
+    ghost labels: { Self → AB → AB → Type 0 } = { λ _ _ _. ⊤ };
+
     /// Asserts the constraints on the builder, in the order of the declared list.
     fn eval(&self, builder: &mut AB) -> Result<(), AirError>
         requires { AB.ready builder.old }
-        ensures { Evaluates ⟦<AB as View>⟧.view builder.old builder.new result
-            (Self.declaration self.now).constraints };
+        ensures evaluated { Evaluates ⟦<AB as View>⟧.view builder.old builder.new result
+            (Self.declaration self.now).constraints }
+        ensures labelled { OnOk result (labels self.now builder.old builder.new) };
 }

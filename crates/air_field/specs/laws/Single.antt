@@ -1,6 +1,10 @@
 -- A ring is an extension of itself: its elements are lists of one coefficient.
 use Rattle.std.specs.Prelude.{◌≡◌, refl, List, [], ◌∷◌, slice_index_or}
 use Rattle.std.proofs.Common.{lit<}
+use Rattle.std.specs.Ordering.{ordering_then}
+use Rattle.std.specs.declared.cmp.Ordering.{Ordering}
+use Rattle.std.specs.declared.cmp.Ordering.TheVariants.{Less, Equal, Greater}
+use Rattle.std.specs.Cmp.Lexicographic.{slice_cmp}
 use Rattle.air_field.specs.Ring.{CommRing, self_algebra}
 use Rattle.air_field.specs.Coefficients.{pad_to}
 use Rattle.air_field.specs.Extension.{own_basis, ExtensionLaws}
@@ -27,3 +31,12 @@ module _ {F : Type 0} (R : CommRing F) where
         part_of = λ c. refl;
         part_is = λ x c h. cc;
       }
+
+then_equal : (o : Ordering) → o ≡ ordering_then o Equal
+then_equal Less = refl
+then_equal Equal = refl
+then_equal Greater = refl
+
+-- elements are compared as their only coefficients are
+pub single_compares : {F : Type 0} (cmp : F → F → Ordering) (a b : F) → cmp a b ≡ slice_cmp cmp (a ∷ []) (b ∷ [])
+single_compares cmp a b = then_equal (cmp a b)

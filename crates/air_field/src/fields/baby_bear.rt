@@ -33,11 +33,6 @@ impl Modulus for BabyBearModulus {
 /// A whole number modulo 2013265921, stored below it.
 pub type BabyBear = Residue<BabyBearModulus>;
 
-impl BabyBear {
-    /// 2^31 - 2^27 + 1.
-    pub const MODULUS: u32 = 2013265921;
-}
-
 impl BinomialModulus for BabyBearModulus {
     ghost W = { 11 };
 

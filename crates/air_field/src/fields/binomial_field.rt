@@ -1,5 +1,5 @@
 //! `BinomialExtension` is an extension of dimension 4.
-ghost use Rattle.std.specs.Prelude.{◌≡◌};
+ghost use Rattle.std.specs.Prelude.{◌≡◌, refl};
 ghost use Rattle.air_field.specs.Residue.{residue_class, residue_ring};
 ghost use Rattle.air_field.specs.Coefficients.{IsProductModulo};
 ghost use Rattle.air_field.specs.Domain.{IsAdjugate};
@@ -130,6 +130,8 @@ impl<M: BinomialModulus> ExtensionField<Residue<M>> for BinomialExtension<M> {
     ghost over_laws = { binomial_over_laws M.Modulus M.W };
 
     ghost eq_is = { same_polynomial };
+
+    ghost cmp_is = { λ _ _. refl };
 }
 
 impl<M: BinomialModulus> DomainExtension<Residue<M>> for BinomialExtension<M> {

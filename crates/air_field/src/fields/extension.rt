@@ -1,5 +1,6 @@
 //! Extension fields.
 ghost use Rattle.std.specs.Prelude.{◌≡◌, ℕ, ◌↔◌, length, IsTrue, IfOk, IsOkUnless, true};
+ghost use Rattle.std.specs.Cmp.Lexicographic.{slice_cmp};
 ghost use Rattle.air_field.specs.Ring.{AlgebraOver, AlgebraOverLaws, minus};
 ghost use Rattle.air_field.specs.Domain.{IsDomain, IsInversion};
 ghost use Rattle.air_field.specs.Extension.{Basis, ExtensionLaws, IsInBase};
@@ -10,7 +11,8 @@ use crate::fields::field::Field;
 use std::alloc::Global;
 use std::fmt::Debug;
 
-/// A commutative algebra over `F` whose elements are the lists of `DIMENSION` coefficients.
+/// A commutative algebra over `F` whose elements are the lists of `DIMENSION` coefficients. `cmp` compares the first
+/// coefficients, lowest first, that differ.
 pub trait ExtensionField<F: Field>: Copy + Eq + Ord + Debug {
     /// The ring, the embedding of `F`, and the element of a coefficient list, which is padded with zeros or cut to
     /// `DIMENSION` coefficients.
@@ -84,6 +86,9 @@ pub trait ExtensionField<F: Field>: Copy + Eq + Ord + Debug {
     ghost over_laws: { AlgebraOverLaws F.ring over };
 
     ghost eq_is: { (a b : Self) → (Self.eq a b ≡ true) ↔ (a ≡ b) };
+
+    ghost cmp_is: { (a b : Self) → Self.cmp a b
+        ≡ slice_cmp F.cmp (basis.coefficients a) (basis.coefficients b) };
 }
 
 /// An extension that is a field: a product is zero only if a factor is, and every nonzero element has an inverse.

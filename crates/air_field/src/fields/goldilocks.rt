@@ -13,7 +13,7 @@ impl Goldilocks {
     ghost use Rattle.air_field.specs.Goldilocks.{goldilocks_number};
 
     /// 2^64 - 2^32 + 1.
-    pub const MODULUS: u64 = 18446744069414584321;
+    pub(crate) const MODULUS: u64 = 18446744069414584321;
 
     /// The class of any number.
     pub fn new(n: u64) -> Self

@@ -106,6 +106,8 @@ impl PrimeField64 for Goldilocks {
         self.residue
     }
 
+    ghost cmp_is = { λ _ _. refl };
+
     ghost order_is = { refl };
 
     ghost ring_is = { refl };

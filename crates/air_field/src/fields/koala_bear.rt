@@ -33,11 +33,6 @@ impl Modulus for KoalaBearModulus {
 /// A whole number modulo 2130706433, stored below it.
 pub type KoalaBear = Residue<KoalaBearModulus>;
 
-impl KoalaBear {
-    /// 2^31 - 2^24 + 1.
-    pub const MODULUS: u32 = 2130706433;
-}
-
 impl BinomialModulus for KoalaBearModulus {
     ghost W = { 3 };
 

@@ -34,8 +34,3 @@ impl Modulus for Mersenne31Modulus {
 
 /// A whole number modulo 2147483647, stored below it.
 pub type Mersenne31 = Residue<Mersenne31Modulus>;
-
-impl Mersenne31 {
-    /// 2^31 - 1.
-    pub const MODULUS: u32 = 2147483647;
-}

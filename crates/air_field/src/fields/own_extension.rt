@@ -1,7 +1,7 @@
 //! A field is an extension of itself of dimension 1.
 ghost use Rattle.air_field.specs.Ring.{self_algebra, self_algebra_laws};
 ghost use Rattle.air_field.specs.Extension.{own_basis};
-ghost use Rattle.air_field.specs.laws.Single.{single_laws};
+ghost use Rattle.air_field.specs.laws.Single.{single_laws, single_compares};
 
 use crate::fields::extension::ExtensionField;
 use crate::fields::field::Field;
@@ -61,4 +61,6 @@ impl<F: Field> ExtensionField<F> for F {
     ghost over_laws = { self_algebra_laws F.ring };
 
     ghost eq_is = { F.eq_is };
+
+    ghost cmp_is = { single_compares F.cmp };
 }

@@ -114,6 +114,8 @@ impl<M: Modulus> PrimeField64 for Residue<M> {
         self.residue as u64
     }
 
+    ghost cmp_is = { λ _ _. refl };
+
     ghost order_is = { refl };
 
     ghost ring_is = { refl };

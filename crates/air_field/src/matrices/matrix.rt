@@ -1,10 +1,20 @@
 //! A matrix; contracts describe it by its list of rows.
-ghost use Rattle.std.specs.Prelude.{◌≡◌, IfSome, length, slice_get};
+ghost use Rattle.std.specs.Prelude.{◌≡◌, ◌+◌, ◌%◌, ◌<◌, Some, IfSome, length, slice_get};
 ghost use Rattle.std.specs.Option.{option_copied, option_and_then};
 ghost use Rattle.air_field.specs.Matrix.{matrix_of};
 
 use crate::errors::MatrixError;
+use crate::matrices::view::{RowMajorMatrixView, ViewPair};
 use std::marker::Model;
+
+/// The row after a row of a trace of this height; after the last row comes the first.
+#[inline(always)]
+pub fn row_after(row: usize, height: usize) -> usize
+    requires { row < height }
+    ensures { result ≡ (row + 1) % height }
+{
+    if row + 1 == height { 0 } else { row + 1 }
+}
 
 /// A matrix of `height` rows of `width` elements each. One of width 0 has no rows.
 #[derive(Drop)]
@@ -77,6 +87,35 @@ impl<T: Copy> RowMajorMatrix<T> {
         }
         let start = row * self.width;
         Some(&self.values[start..start + self.width])
+    }
+
+    /// The elements of a row, which must be in range.
+    #[inline(always)]
+    pub fn row(&self, row: usize) -> &[T]
+        requires { row < length self.now.rows }
+        ensures row { slice_get self.now.rows row ≡ Some result.now }
+        ensures width { length result.now ≡ self.now.width }
+    {
+        match self.row_slice(row) {
+            Some(elements) => elements,
+            None => unreachable!(),
+        }
+    }
+
+    /// A row, which must be in range, and the row after it.
+    #[inline(always)]
+    pub fn row_pair(&self, row: usize) -> ViewPair<'_, T>
+        requires { row < length self.now.rows }
+        ensures top { slice_get self.now.rows row ≡ Some result.top.values.now }
+        ensures bottom { slice_get self.now.rows ((row + 1) % length self.now.rows) ≡ Some
+            result.bottom.values.now }
+        ensures width { length result.top.values.now ≡ self.now.width }
+    {
+        let after = row_after(row, self.height());
+        ViewPair::new(
+            RowMajorMatrixView::new_row(self.row(row)),
+            RowMajorMatrixView::new_row(self.row(after)),
+        )
     }
 
     /// The element at this row and column, or `None` if either is out of range.

@@ -1,5 +1,5 @@
 //! The ring whose elements are field values.
-ghost use Rattle.std.specs.Prelude.{◌≡◌, ⊤, IsTrue, refl};
+ghost use Rattle.std.specs.Prelude.{◌≡◌, ◌↔◌, ◌⊎◌, ⊤, IsTrue, refl};
 ghost use Rattle.air_field.specs.Ring.{minus};
 ghost use Rattle.air_field.specs.Term.{IsBase, const_term};
 ghost use Rattle.air_field.specs.Algebra.{closed_value};
@@ -14,6 +14,14 @@ use std::marker::PhantomData;
 #[derive(Clone, Copy)]
 pub struct FieldRing<F> {
     of: PhantomData<F>,
+}
+
+/// Whether `x` is zero or one.
+#[inline(always)]
+fn is_bit<F: Field>(x: F) -> bool
+    ensures { IsTrue result ↔ ((x ≡ F.ring.zero) ⊎ (x ≡ F.ring.one)) }
+{
+    x == F::ZERO || x == F::ONE
 }
 
 impl<F: Field> FieldRing<F> {
@@ -84,6 +92,30 @@ impl<F: Field> Algebra<F> for FieldRing<F> {
             Ok(F::ZERO)
         } else {
             Ok(condition.mul(x))
+        }
+    }
+
+    #[inline(always)]
+    fn bool_check(&mut self, x: F) -> Result<F, RingError>
+        ensures { result ≡ Ok (F.ring.mul x (minus F.ring x F.ONE)) }
+    {
+        if is_bit(x) {
+            Ok(F::ZERO)
+        } else {
+            Ok(x.mul(x.sub(F::ONE)))
+        }
+    }
+
+    #[inline(always)]
+    fn xor(&mut self, x: F, y: F) -> Result<F, RingError>
+        ensures { result ≡ Ok (minus F.ring (F.ring.add x y) (F.ring.add (F.ring.mul x y)
+            (F.ring.mul x y))) }
+    {
+        if is_bit(x) && is_bit(y) {
+            Ok(F::from_bool(!(x == y)))
+        } else {
+            let product = x.mul(y);
+            Ok(x.add(y).sub(product.add(product)))
         }
     }
 

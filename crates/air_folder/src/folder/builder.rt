@@ -3,8 +3,9 @@ ghost use Rattle.std.specs.Prelude.{◌≡◌};
 ghost use Rattle.air_folder.specs.FolderRow.{StartsAt, accumulator_of};
 
 use crate::folder::ring::FolderRing;
-use crate::folder::row::{Row, Selectors};
+use crate::folder::row::Row;
 use air_audit::{ExtensionField, Field, RowWindow, ViewPair};
+use air_core::Selectors;
 use std::marker::PhantomData;
 
 /// Evaluates constraints on one row with values in the extension `EF`, and folds them: after the values v1 to vK, the

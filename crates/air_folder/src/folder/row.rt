@@ -1,14 +1,7 @@
 //! The row of a folder.
 
 use air_audit::RowWindow;
-
-/// The values of the three selectors at a row.
-#[derive(Drop)]
-pub(crate) struct Selectors<EF: Copy> {
-    pub(crate) is_first_row: EF,
-    pub(crate) is_last_row: EF,
-    pub(crate) is_transition: EF,
-}
+use air_core::Selectors;
 
 /// A borrowed row and the next one, of the main and the preprocessed trace, with the values of the periodic columns,
 /// the public values and the selectors.

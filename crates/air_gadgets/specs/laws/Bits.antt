@@ -1,5 +1,6 @@
 -- Bits and their images.
-use Rattle.std.proofs.Common.{◌≡◌, ◌∙◌, ℕ, zero, suc, ◌+◌, ◌-◌, ◌*◌, ◌/◌, ◌%◌, ◌^◌, ◌<◌, List, [], ◌∷◌, ◌++◌, map, append_assoc, refl, sym, ap, ap₂, arith}
+use Rattle.std.specs.Bool.{if◌then◌else◌}
+use Rattle.std.proofs.Common.{◌≡◌, ◌∙◌, ℕ, zero, suc, ◌+◌, ◌-◌, ◌*◌, ◌/◌, ◌%◌, ◌^◌, ◌<◌, eqb, List, [], ◌∷◌, ◌++◌, map, append_assoc, refl, sym, ap, ap₂, arith}
 use Rattle.std.proofs.Math.Nat.{pow-zero, pow-suc}
 use Rattle.air_field.specs.Ring.{CommRing, image, minus}
 use Rattle.air_field.specs.laws.RingSolver.{var, nought, unit, plus, times, less, ring}
@@ -16,6 +17,15 @@ xored_once [] = refl
 xored_once (b ∷ bs) = omega arith
 
 module _ {A : Type 0} (R : CommRing A) where
+  image-below_two : (m : ℕ) → m < 2 → (if eqb m 1 then R.one else R.zero) ≡ image R m
+  image-below_two zero low = sym (image-zero R)
+  image-below_two (suc zero) low = sym (image-one R)
+  image-below_two (suc (suc m)) low = absurd (omega (arith, low))
+
+  -- one or zero, by a test of the lowest bit
+  pub image-bit : (n : ℕ) → (if eqb (n % 2) 1 then R.one else R.zero) ≡ image R (n % 2)
+  image-bit n = image-below_two (n % 2) (omega arith)
+
   xor_at : (m n k : ℕ) (x y z : A) → image R m ≡ x → image R n ≡ y → image R k ≡ z → ring_xor R x y ≡ z → ring_xor R (image R m) (image R n) ≡ image R k
   xor_at m n k x y z hm hn hk h = ap₂ (ring_xor R) hm hn ∙ (h ∙ sym hk)
 

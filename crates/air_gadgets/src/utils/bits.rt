@@ -13,7 +13,7 @@ fn bits_le<F: Field, const N: usize>(val: u64) -> [F; N]
     let mut bits = [F::ZERO; N];
     let mut left = val;
     for i in 0..N {
-        bits[i] = F::from_u64(left % 2);
+        bits[i] = F::from_bool(left % 2 == 1);
         left /= 2;
     }
     bits

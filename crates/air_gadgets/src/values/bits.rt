@@ -38,6 +38,7 @@ impl<AB: AirBuilder> Series<AB> for Columns {
         self.count
     }
 
+    #[inline(always)]
     fn make_at(&self, index: usize, builder: &mut AB) -> AirResult<AB::Expr> {
         Current(self.first + index).make(builder)
     }
@@ -70,6 +71,7 @@ impl<AB: AirBuilder> Family<AB> for Bits {
         self.0.count
     }
 
+    #[inline(always)]
     fn assert_at<K: Condition<AB>>(
         &self,
         index: usize,

@@ -1,5 +1,5 @@
 //! Expressions numbered by an index, packed into one.
-ghost use Rattle.std.specs.Prelude.{◌≡◌, ℕ, ◌+◌, ◌<◌, ◌≤◌, IfOk, IfErr};
+ghost use Rattle.std.specs.Prelude.{◌≡◌, ℕ, ◌<◌, IfOk, IfErr};
 ghost use Rattle.air_field.specs.Algebra.{MadeOfBoth, RefusedOfBoth};
 ghost use Rattle.air_field.specs.Term.{Term};
 ghost use Rattle.air_gadgets.specs.Packing.{packed_from, packed_term};
@@ -47,25 +47,25 @@ fn twice_and<F: Field, R: Algebra<F>>(
     ring.add(twice, y)
 }
 
-/// The sum of 2^i x_i over the expression at index `at` and the `more` after it.
+/// The sum of 2^i x_i over the expressions up to index `last`, from the last one down.
 fn make_packed<AB: AirBuilder, S: Series<AB>>(
     builder: &mut AB,
     series: &S,
-    at: usize,
-    more: usize,
+    last: usize,
 ) -> AirResult<AB::Expr>
     requires ready { AB.ready builder.old }
-    requires within { at + more < S.count series.now }
-    requires fits { at + more ≤ usize.MAX }
+    requires within { last < S.count series.now }
     ensures { MakesIn ⟦<AB as View>⟧.view builder.old builder.new result
-        (packed_from (S.term_at series.now at) (terms_from (S.term_at series.now) (at + 1) more)) }
+        (packed_from (S.term_at series.now 0) (terms_from (S.term_at series.now) 1 last)) }
 {
-    if more == 0 {
-        return series.make_at(at, builder);
+    let mut sum = series.make_at(last, builder)?;
+    let mut index = last;
+    while index > 0 {
+        index -= 1;
+        let bit = series.make_at(index, builder)?;
+        sum = to_air_result(twice_and(builder.ring(), sum, bit))?;
     }
-    let above = make_packed(builder, series, at + 1, more - 1)?;
-    let bit = series.make_at(at, builder)?;
-    to_air_result(twice_and(builder.ring(), above, bit))
+    Ok(sum)
 }
 
 /// The sum of 2^i x_i; zero for an empty series.
@@ -80,6 +80,6 @@ impl<AB: AirBuilder, S: Series<AB>> Expression<AB> for Packed<S> {
         if count == 0 {
             return Constant(AB::F::ZERO).make(builder);
         }
-        make_packed(builder, &self.0, 0, count - 1)
+        make_packed(builder, &self.0, count - 1)
     }
 }

@@ -5,11 +5,11 @@ ghost use Rattle.air_field.specs.Ring.{image};
 ghost use Rattle.air_builder.specs.Notation.{is_zero};
 ghost use Rattle.air_gadgets.specs.Gadgets.{less_two_term, less_three_term, raised_term, carry_term, times_raised_term, whole_term, carried_terms, add2_terms, add3_terms};
 ghost use Rattle.air_builder.specs.Batches.{AssertedIn};
-ghost use Rattle.air_author.specs.Expressions.{AlwaysAfter};
+ghost use Rattle.air_author.specs.Expressions.{AlwaysAfter, MakesBothIn};
 ghost use Rattle.air_gadgets.specs.WordTerms.{limbs, all_vanish};
 
 use air_author::{
-    AirResult, Condition, Constraint, Expression, Less, Number, Zero, make_difference,
+    AirResult, Already, Condition, Constraint, Expression, Less, Number, Zero, make_difference,
     make_product, make_sum,
 };
 use air_builder::{AirBuilder, View};
@@ -125,6 +125,23 @@ fn assert_both_zero<AB: AirBuilder, X: Expression<AB>, Y: Expression<AB>, K: Con
     assert_zero(builder, condition, y)
 }
 
+/// Makes low, and low + 2^16 high, each once.
+fn make_low_and_whole<AB: AirBuilder, X: Expression<AB>, Y: Expression<AB>>(
+    builder: &mut AB,
+    low: &X,
+    high: &Y,
+) -> AirResult<(AB::Expr, AB::Expr)>
+    requires ready { AB.ready builder.old }
+    requires usable { AlwaysAfter AB.kept (λ b. X.usable low.now b × Y.usable high.now b)
+        builder.old }
+    ensures { MakesBothIn ⟦<AB as View>⟧.view builder.old builder.new result (X.term low.now)
+        (whole_term AB.F.ring (X.term low.now) (Y.term high.now)) }
+{
+    let made = low.make(builder)?;
+    let whole = Whole(&Already(made, low), high).make(builder)?;
+    Ok((made, whole))
+}
+
 /// Asserts that low + 2^16 high and low are zero up to a carry.
 fn assert_zero_but_carry<AB: AirBuilder, X: Expression<AB>, Y: Expression<AB>, K: Condition<AB>>(
     builder: &mut AB,
@@ -140,12 +157,13 @@ fn assert_zero_but_carry<AB: AirBuilder, X: Expression<AB>, Y: Expression<AB>, K
         (all_vanish (K.under condition.now) (carried_terms AB.F.ring false (X.term low.now)
         (Y.term high.now))) }
 {
-    let whole = Whole(low, high);
+    let (made, made_whole) = make_low_and_whole(builder, low, high)?;
+    let whole = Already(made_whole, Whole(low, high));
     assert_both_zero(
         builder,
         condition,
         &Carry(&whole, 4294967296),
-        &Carry(low, 65536),
+        &Carry(&Already(made, low), 65536),
     )
 }
 
@@ -226,9 +244,14 @@ fn assert_zero_but_two_carries<
         (all_vanish (K.under condition.now) (carried_terms AB.F.ring true (X.term low.now)
         (Y.term high.now))) }
 {
-    let whole = Whole(low, high);
-    let whole = TwoCarries(&whole, 4294967296, 8589934592);
-    assert_both_zero(builder, condition, &whole, &TwoCarries(low, 65536, 131072))
+    let (made, made_whole) = make_low_and_whole(builder, low, high)?;
+    let whole = Already(made_whole, Whole(low, high));
+    assert_both_zero(
+        builder,
+        condition,
+        &TwoCarries(&whole, 4294967296, 8589934592),
+        &TwoCarries(&Already(made, low), 65536, 131072),
+    )
 }
 
 /// The word a is b + c + d modulo 2^32, if each limb has 16 bits, which isn't asserted.

@@ -4,9 +4,7 @@ ghost use Rattle.std.specs.Prelude.{◌+◌, ◌^◌, ◌<◌, ◌≤◌};
 use crate::values::bits::{Bits, Columns};
 use crate::values::packed::{Packed, Series};
 use crate::values::sums::Word;
-use air_author::{
-    AirResult, Condition, Constraint, Current, Difference, Double, Equal, Expression, Product, Sum,
-};
+use air_author::{AirResult, Condition, Constraint, Current, Equal, Expression, Xor};
 use air_builder::AirBuilder;
 
 /// The word b and the word c rotated to the left by `shift`. The bits of each are 32 columns, from column `b` and from
@@ -40,11 +38,12 @@ impl<AB: AirBuilder> Series<AB> for XorHalf {
         16
     }
 
+    #[inline(always)]
     fn make_at(&self, index: usize, builder: &mut AB) -> AirResult<AB::Expr> {
         let i = self.from + index;
         let x = Current(self.words.b + i);
         let y = Current(self.words.c + (i + 32 - self.words.shift) % 32);
-        Difference(Sum(x, y), Double(Product(x, y))).make(builder)
+        Xor(x, y).make(builder)
     }
 }
 

@@ -9,23 +9,14 @@ use Rattle.air_json.specs.declared.errors.FlatError.{FlatError}
 use Rattle.air_json.specs.declared.errors.FlatError.TheVariants as faults
 use Rattle.air_json.specs.Results.{◌>>=◌}
 use Rattle.air_json.specs.laws.Readings.{ok_of, done_is, err_of, err_is, bind_ok, ok_or_found}
-use Rattle.air_object.specs.Objects.{Grammar, by_form, AllSpell, FirstElementFault, list_of, at_most, needed_member, optional_member, then_member, both_members, both_or_none}
-use Rattle.air_object.specs.Readers.{Reader, or_wrong_form, each_from, list_read, if_at_most, needed_read, or_absent, optional_read, then_read, both_read, if_either}
+use Rattle.air_object.specs.Objects.{Grammar, by_form, AllSpell, FirstElementFault, list_of, at_most, needed_member, optional_member, then_member, given, both_members, both_or_none}
+use Rattle.air_object.specs.Readers.{Reader, or_wrong_form, each_from, list_read, if_at_most, needed_read, or_absent, optional_read, both_read, if_either}
 
 pub record Agrees {X : Type 0} (g : Grammar X) (read : Reader X) : Type 0 where
   pub found : (d : Data) (x : X) → read d ≡ Ok x → g.spells d x
   pub again : (d : Data) (x : X) → g.spells d x → read d ≡ Ok x
   pub fault : (d : Data) (f : FlatError) → read d ≡ Err f → g.fault d f
   pub refused : (d : Data) (f : FlatError) → g.fault d f → read d ≡ Err f
-
--- a reader with equal answers agrees too
-pub agrees_as : {X : Type 0} (g : Grammar X) (read other : Reader X) → ((d : Data) → other d ≡ read d) → Agrees g read → Agrees g other
-agrees_as g read other same agrees = record {
-  found = λ d x e. agrees.found d x (sym (same d) ∙ e);
-  again = λ d x h. same d ∙ agrees.again d x h;
-  fault = λ d f e. agrees.fault d f (sym (same d) ∙ e);
-  refused = λ d f h. same d ∙ agrees.refused d f h;
-}
 
 some_is : {A : Type 0} (x y : A) → Some x ≡ Some y → x ≡ y
 some_is x y e = cc
@@ -192,42 +183,45 @@ module _ {X : Type 0} (name : List ℕ) (g : Grammar X) (read : Reader X) (agree
       refused = λ d f h. ap (or_absent absent read) h.1 ∙ agrees.refused h.0 f h.2;
     }
 
+-- a value that the data don't determine
+pub given_agrees : {X : Type 0} (x : X) → Agrees (given x) (λ d. ok_of x)
+given_agrees x = record {
+  found = λ d y e. done_is (λ z. z ≡ x) x y e refl;
+  again = λ d y h. ap (λ z. ok_of z) (sym h);
+  fault = λ d f e. absurd cc;
+  refused = λ d f h. absurd h;
+}
+
 module _ {X Y : Type 0} (g : Grammar X) (read : Reader X) (agrees : Agrees g read) (h : X → Grammar Y) (next : X → Reader Y) (agree : (x : X) → Agrees (h x) (next x)) where
-  abbrev paired : X → Y → Result (X × Y) FlatError
-  paired x y = Ok (x, y)
+  abbrev and_next : Data → Result X FlatError → Result Y FlatError
+  and_next d r = r >>= λ x. next x d
 
-  abbrev and_next : Data → Result X FlatError → Result (X × Y) FlatError
-  and_next d r = r >>= λ x. next x d >>= λ y. paired x y
-
-  then_found : (d : Data) (p : X × Y) → then_read read next d ≡ Ok p → (then_member g h).spells d p
-  then_found d p e =
-      let x = bind_ok (read d) (λ x. next x d >>= λ y. paired x y) p e in
-      let y = bind_ok (next x.0 d) (λ y. paired x.0 y) p x.2 in
-      done_is (λ q. g.spells d q.0 × (h q.0).spells d q.1) (x.0, y.0) p y.2 (agrees.found d x.0 x.1, (agree x.0).found d y.0 y.1)
+  then_found : (d : Data) (y : Y) → and_next d (read d) ≡ Ok y → (then_member g h).spells d y
+  then_found d y e =
+      let x = bind_ok (read d) (λ x. next x d) y e in
+      (x.0, agrees.found d x.0 x.1, (agree x.0).found d y x.2)
 
   then_fault : (d : Data) (f : FlatError) (r : Result X FlatError) → read d ≡ r → and_next d r ≡ Err f → (then_member g h).fault d f
   then_fault d f (Err k) is e = inl (agrees.fault d f (is ∙ ap (λ k. err_of k) (err_is k f e)))
-  then_fault d f (Ok x) is e = inr (x, agrees.found d x is, (agree x).fault d f (of_next (next x d) e))
-    where
-      of_next : (r : Result Y FlatError) → (r >>= λ y. paired x y) ≡ Err f → r ≡ Err f
-      of_next (Ok y) e = absurd cc
-      of_next (Err k) e = ap (λ k. err_of k) (err_is k f e)
+  then_fault d f (Ok x) is e = inr (x, agrees.found d x is, (agree x).fault d f e)
 
-  then_refused : (d : Data) (f : FlatError) → (then_member g h).fault d f → then_read read next d ≡ Err f
+  then_refused : (d : Data) (f : FlatError) → (then_member g h).fault d f → and_next d (read d) ≡ Err f
   then_refused d f (inl k) = ap (and_next d) (agrees.refused d f k)
-  then_refused d f (inr k) = ap (and_next d) (agrees.again d k.0 k.1) ∙ ap (λ (r : Result Y FlatError). r >>= λ y. paired k.0 y) ((agree k.0).refused d f k.2)
+  then_refused d f (inr k) = ap (and_next d) (agrees.again d k.0 k.1) ∙ (agree k.0).refused d f k.2
 
-  pub then_agrees : Agrees (then_member g h) (then_read read next)
+  -- two readers in turn, where the result of the first determines the second
+  pub then_agrees : Agrees (then_member g h) (λ d. read d >>= λ x. next x d)
   then_agrees = record {
     found = then_found;
-    again = λ d p k. ap (and_next d) (agrees.again d p.0 k.0) ∙ ap (λ (r : Result Y FlatError). r >>= λ y. paired p.0 y) ((agree p.0).again d p.1 k.1);
+    again = λ d y k. ap (and_next d) (agrees.again d k.0 k.1) ∙ (agree k.0).again d y k.2;
     fault = λ d f e. then_fault d f (read d) refl e;
     refused = then_refused;
   }
 
 pub both_agree : {X Y : Type 0} (g : Grammar X) (read : Reader X) → Agrees g read → (h : Grammar Y) (next : Reader Y) → Agrees h next
     → Agrees (both_members g h) (both_read read next)
-both_agree g read agrees h next agree = then_agrees g read agrees (λ _. h) (λ _. next) (λ _. agree)
+both_agree g read agrees h next agree =
+    then_agrees g read agrees _ (λ x d. next d >>= λ y. ok_of (x, y)) (λ x. then_agrees h next agree _ (λ y d. ok_of (x, y)) (λ y. given_agrees (x, y)))
 
 -- ---- both members or none
 
@@ -256,7 +250,7 @@ module _ {X Y : Type 0} (one other : List ℕ) (g : Grammar X) (h : Grammar Y) (
 
   either_again : (d : Data) (o : Option (X × Y)) → either.spells d o → if_either one other read d ≡ Ok o
   either_again d o (inl k) = ap (λ a. of_either (read d) a (get other d)) k.0 ∙ ap (λ b. of_either (read d) None b) k.1 ∙ ap (λ v. ok_of v) (sym k.2)
-  either_again d o (inr k) = first_there d k.1.0.0 k.1.0.1 ∙ ap some_of (agrees.again d k.0 k.1) ∙ ap (λ v. ok_of v) (sym k.2)
+  either_again d o (inr k) = first_there d k.1.1.0 k.1.1.1 ∙ ap some_of (agrees.again d k.0 k.1) ∙ ap (λ v. ok_of v) (sym k.2)
 
   some_fault : (f : FlatError) (r : Result (X × Y) FlatError) → some_of r ≡ Err f → r ≡ Err f
   some_fault f (Ok p) e = absurd cc

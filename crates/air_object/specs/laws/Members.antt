@@ -1,5 +1,5 @@
 -- The members are read exactly as they are spelt.
-use Rattle.std.proofs.Common.{◌≡◌, ℕ, Bool, true, false, List, [], length, Option, Some, None, Result, Ok, Err, if◌then◌else◌, codes, refl, sym, ap, ◌∙◌, inl, inr}
+use Rattle.std.proofs.Common.{◌≡◌, ℕ, Bool, true, false, List, [], length, Option, Some, None, Ok, Err, if◌then◌else◌, codes, refl, sym, ap, ◌∙◌, inl, inr}
 use Rattle.std.proofs.lemmas.Bool.{ltb-false, le-ltb}
 use Rattle.std.specs.Prelude.{nat_lt}
 use Rattle.serde_json.specs.Find.{as_str}
@@ -11,15 +11,14 @@ use Rattle.air_json.specs.Boundaries.{SpellsCell, cell_of}
 use Rattle.air_json.specs.laws.Boundaries.{cell_laws}
 use Rattle.air_json.specs.laws.Lists.{root_found, root_again, root_fault, root_fault_read}
 use Rattle.air_json.specs.Parts.{as_whole_number}
-use Rattle.air_json.specs.Results.{◌>>=◌}
 use Rattle.air_json.specs.laws.Readings.{by_some, number_found, text_found, err_of, err_is}
 use Rattle.air_json.specs.Spelling.{IsWholeNumber}
 use Rattle.air_json.specs.declared.errors.FlatError.{FlatError}
 use Rattle.air_json.specs.declared.errors.FlatError.TheVariants as faults
 use Rattle.air_object.specs.Objects.{list_of, at_most, needed_member, optional_member, both_or_none}
-use Rattle.air_object.specs.Members.{whole_number, ElementFault, element, constraint, boundary_cell, SpellsCap, cap, label, OtherValues, constraint_count, MemberValues, other_members, members, labelled_constraints}
-use Rattle.air_object.specs.Readers.{or_wrong_form, list_read, tree, trees, elements, columns, cell_read, cells, label_read, labels, cap_in, width_member, elements_member, table_member, constraints_member, periodic_member, boundary_member, cap_member, weight_member, labels_member, labelled_read, members_read, Reader, then_read, both_read}
-use Rattle.air_object.specs.laws.Agreement.{Agrees, by_form_agrees, list_agrees, at_most_agrees, needed_agrees, optional_agrees, then_agrees, both_agree, both_or_none_agrees, agrees_as}
+use Rattle.air_object.specs.Members.{whole_number, ElementFault, element, constraint, constraints, boundary_cell, SpellsCap, cap, label, table_of, table, made, members, labelled_constraints}
+use Rattle.air_object.specs.Readers.{or_wrong_form, list_read, tree, trees, elements, columns, cell_read, cells, label_read, labels, cap_in, width_member, elements_member, table_member, constraints_member, periodic_member, boundary_member, cap_member, weight_member, labels_member, labelled_read, members_with, members_read}
+use Rattle.air_object.specs.laws.Agreement.{Agrees, by_form_agrees, list_agrees, at_most_agrees, needed_agrees, optional_agrees, given_agrees, then_agrees, both_agree, both_or_none_agrees}
 
 whole_again : (d : Data) (n : ℕ) → IsWholeNumber n d → as_whole_number d ≡ Some n
 whole_again d n h = ap as_whole_number h
@@ -80,34 +79,6 @@ labels_member_agrees : (n : ℕ) → Agrees (optional_member (codes "labels") []
 unfolding labels_member
 labels_member_agrees n = optional_agrees (codes "labels") (at_most n (list_of label)) (labels n) (labels_agree n) []
 
-module _ {O P Q R S T U V W X : Type 0} where
-  abbrev in_a_row : Result O FlatError → Result P FlatError → Result Q FlatError → Result R FlatError → Result S FlatError → Result T FlatError → Result U FlatError → Result V FlatError → Result W FlatError → (S → Result X FlatError) → Result ((O × (P × (Q × (R × (S × (T × (U × (V × W)))))))) × X) FlatError
-  in_a_row o p q r s t u v w l = do
-    h ← o
-    x ← p
-    y ← q
-    z ← r
-    a ← s
-    b ← t
-    c ← u
-    e ← v
-    g ← w
-    i ← l a
-    Ok ((h, (x, (y, (z, (a, (b, (c, (e, g)))))))), i)
-
-  same_row : (d : Data) (o : Result O FlatError) (p : Result P FlatError) (q : Result Q FlatError) (r : Result R FlatError) (s : Result S FlatError) (t : Result T FlatError) (u : Result U FlatError) (v : Result V FlatError) (w : Result W FlatError) (l : S → Result X FlatError)
-      → in_a_row o p q r s t u v w l ≡ then_read (both_read (λ _. o) (both_read (λ _. p) (both_read (λ _. q) (both_read (λ _. r) (both_read (λ _. s) (both_read (λ _. t) (both_read (λ _. u) (both_read (λ _. v) (λ _. w))))))))) (λ values _. l values.1.1.1.1.0) d
-  same_row d (Err f) p q r s t u v w l = refl
-  same_row d (Ok h) (Err f) q r s t u v w l = refl
-  same_row d (Ok h) (Ok x) (Err f) r s t u v w l = refl
-  same_row d (Ok h) (Ok x) (Ok y) (Err f) s t u v w l = refl
-  same_row d (Ok h) (Ok x) (Ok y) (Ok z) (Err f) t u v w l = refl
-  same_row d (Ok h) (Ok x) (Ok y) (Ok z) (Ok a) (Err f) u v w l = refl
-  same_row d (Ok h) (Ok x) (Ok y) (Ok z) (Ok a) (Ok b) (Err f) v w l = refl
-  same_row d (Ok h) (Ok x) (Ok y) (Ok z) (Ok a) (Ok b) (Ok c) (Err f) w l = refl
-  same_row d (Ok h) (Ok x) (Ok y) (Ok z) (Ok a) (Ok b) (Ok c) (Ok e) (Err f) l = refl
-  same_row d (Ok h) (Ok x) (Ok y) (Ok z) (Ok a) (Ok b) (Ok c) (Ok e) (Ok g) l = refl
-
 module _ {F : Type 0} {order : ℕ} (modular : Modular F order) where
   -- ---- elements
 
@@ -165,13 +136,15 @@ module _ {F : Type 0} {order : ℕ} (modular : Modular F order) where
   unfolding elements_member
   numbers_agree name = needed_agrees name (list_of (element modular)) (elements modular) elements_agree
 
-  table_agrees : Agrees (both_or_none (codes "preprocessed_width") whole_number (codes "preprocessed") (list_of (element modular))) (table_member modular)
+  table_agrees : Agrees (table modular) (table_member modular)
   unfolding table_member
   table_agrees =
-      both_or_none_agrees (codes "preprocessed_width") (codes "preprocessed") whole_number (list_of (element modular)) _
-      (both_agree _ (width_member (codes "preprocessed_width")) (width_agrees (codes "preprocessed_width")) _ (elements_member modular (codes "preprocessed")) (numbers_agree (codes "preprocessed")))
+      then_agrees _ _
+      (both_or_none_agrees (codes "preprocessed_width") (codes "preprocessed") whole_number (list_of (element modular)) _
+      (both_agree _ (width_member (codes "preprocessed_width")) (width_agrees (codes "preprocessed_width")) _ (elements_member modular (codes "preprocessed")) (numbers_agree (codes "preprocessed"))))
+      _ (λ rows d. Ok (table_of rows)) (λ rows. given_agrees (table_of rows))
 
-  pub constraints_agree : Agrees (needed_member (codes "constraints") (list_of (constraint modular))) (constraints_member modular)
+  pub constraints_agree : Agrees (constraints modular) (constraints_member modular)
   unfolding constraints_member
   constraints_agree = needed_agrees (codes "constraints") (list_of (constraint modular)) (trees modular) trees_agree
 
@@ -180,34 +153,21 @@ module _ {F : Type 0} {order : ℕ} (modular : Modular F order) where
   periodic_agrees = optional_agrees (codes "periodic") (list_of (list_of (element modular))) (columns modular) columns_agree []
 
   pub labelled_agree : Agrees (labelled_constraints modular) (labelled_read modular)
-  labelled_agree = then_agrees _ (constraints_member modular) constraints_agree _ (λ trees. labels_member (length trees)) (λ trees. labels_member_agrees (length trees))
-
-  -- the readers in order, each with all that follow it
-  abbrev others_in_turn : Reader (OtherValues F)
-  others_in_turn = both_read (width_member (codes "main_width")) (both_read (elements_member modular (codes "main")) (both_read (table_member modular) (both_read (elements_member modular (codes "public_values")) (both_read (constraints_member modular) (both_read (periodic_member modular) (both_read boundary_member (both_read cap_member weight_member)))))))
-
-  others_agree : Agrees (other_members modular) others_in_turn
-  others_agree =
-      both_agree _ (width_member (codes "main_width")) (width_agrees (codes "main_width")) _ _
-      (both_agree _ (elements_member modular (codes "main")) (numbers_agree (codes "main")) _ _
-      (both_agree _ (table_member modular) table_agrees _ _
-      (both_agree _ (elements_member modular (codes "public_values")) (numbers_agree (codes "public_values")) _ _
-      (both_agree _ (constraints_member modular) constraints_agree _ _
-      (both_agree _ (periodic_member modular) periodic_agrees _ _
-      (both_agree _ boundary_member boundary_agrees _ _
-      (both_agree _ cap_member cap_member_agrees _ weight_member weight_agrees)))))))
-
-  abbrev in_turn : Reader (MemberValues F)
-  in_turn = then_read others_in_turn (λ v. labels_member (constraint_count v))
-
-  turns_agree : Agrees (members modular) in_turn
-  turns_agree = then_agrees (other_members modular) others_in_turn others_agree _ (λ v. labels_member (constraint_count v)) (λ v. labels_member_agrees (constraint_count v))
-
-  same_read : (d : Data) → members_read modular d ≡ in_turn d
-  unfolding members_read
-  same_read d =
-      same_row d (width_member (codes "main_width") d) (elements_member modular (codes "main") d) (table_member modular d) (elements_member modular (codes "public_values") d) (constraints_member modular d) (periodic_member modular d) (boundary_member d) (cap_member d) (weight_member d)
-      (λ constraints. labels_member (length constraints) d)
+  labelled_agree =
+      then_agrees _ (constraints_member modular) constraints_agree _ _ (λ trees.
+      then_agrees _ (labels_member (length trees)) (labels_member_agrees (length trees)) _ (λ texts d. Ok (trees, texts)) (λ texts. given_agrees (trees, texts)))
 
   pub members_agree : Agrees (members modular) (members_read modular)
-  members_agree = agrees_as (members modular) in_turn (members_read modular) same_read turns_agree
+  unfolding members_with
+  members_agree =
+      then_agrees _ (width_member (codes "main_width")) (width_agrees (codes "main_width")) _ _ (λ width.
+      then_agrees _ (elements_member modular (codes "main")) (numbers_agree (codes "main")) _ _ (λ main.
+      then_agrees _ (table_member modular) table_agrees _ _ (λ preprocessed.
+      then_agrees _ (elements_member modular (codes "public_values")) (numbers_agree (codes "public_values")) _ _ (λ public_values.
+      then_agrees _ (constraints_member modular) constraints_agree _ _ (λ trees.
+      then_agrees _ (periodic_member modular) periodic_agrees _ _ (λ periodic.
+      then_agrees _ boundary_member boundary_agrees _ _ (λ boundary.
+      then_agrees _ cap_member cap_member_agrees _ _ (λ most.
+      then_agrees _ weight_member weight_agrees _ _ (λ weight.
+      then_agrees _ (labels_member (length trees)) (labels_member_agrees (length trees)) _ (λ texts d. Ok (made width main preprocessed public_values trees periodic boundary most weight texts)) (λ texts.
+      given_agrees (made width main preprocessed public_values trees periodic boundary most weight texts)))))))))))

@@ -2,16 +2,16 @@
 use Rattle.std.specs.Prelude.{slice_get}
 use Rattle.std.proofs.Common.{◌≡◌, ℕ, zero, suc, ◌<◌, ◌≤◌, Bool, true, false, ◌&&◌, cond, List, [], ◌∷◌, ◌++◌, length, slice_index_or, map, All, Contains, Option, None, Some, is_some, codes, refl, sym, ap, ap₂, subst, ◌∙◌, arith, ⊎_elim}
 use Rattle.std.proofs.lemmas.List.{map-append}
-use Rattle.std.proofs.lemmas.List.Elements.{All-nil, All-cons, All-append}
+use Rattle.std.proofs.lemmas.List.Elements.{All-nil, All-cons, All-append, All-contains}
 use Rattle.air_field.specs.Modular.{Modular}
 use Rattle.air_field.specs.Ring.{CommRing}
 use Rattle.air_field.specs.Term.{Leaf}
 use Rattle.air_symbolic.specs.BaseLeaves.{base_leaves}
 use Rattle.air_symbolic.specs.ExtLeaves.{BaseNodes}
-use Rattle.air_symbolic.specs.Reach.{EachOperand, IsOperand, Marked, Reached, ReachedFrom, root, operand}
+use Rattle.air_symbolic.specs.Nodes.{operands}
+use Rattle.air_symbolic.specs.Reach.{Marked, Reached, ReachedFrom, root, operand}
 use Rattle.air_symbolic.specs.declared.leaves.base_leaf.BaseLeaf.{BaseLeaf}
 use Rattle.air_symbolic.specs.declared.pools.expr.SymbolicExpr.{SymbolicExpr}
-use Rattle.air_symbolic.specs.declared.pools.expr.SymbolicExpr.TheVariants as node
 use Rattle.air_print.specs.Infix.{shown_number, infix_text, constant_text}
 use Rattle.air_print.specs.Lines.{listed_name}
 use Rattle.air_print.specs.Names.{is_reached, passing_below}
@@ -21,13 +21,6 @@ use Rattle.air_print.specs.Explained.{explained_lines, Explains}
 use Rattle.air_print.specs.Reading.{Reads, has_variable, is_read}
 use Rattle.air_print.specs.Values.{number_value, Known, AreClosed}
 
-each_operand : {A : Type 0} (P : ℕ → Type 0) (i : ℕ) (n : SymbolicExpr A) → EachOperand P n → IsOperand i n → P i
-each_operand P i (node.Leaf a) h e = absurd e
-each_operand P i (node.Add x y d) h e = ⊎_elim (λ (p : i ≡ x). subst P (sym p) h.0) (λ (p : i ≡ y). subst P (sym p) h.1) e
-each_operand P i (node.Sub x y d) h e = ⊎_elim (λ (p : i ≡ x). subst P (sym p) h.0) (λ (p : i ≡ y). subst P (sym p) h.1) e
-each_operand P i (node.Neg x d) h e = subst P (sym e) h
-each_operand P i (node.Mul x y d) h e = ⊎_elim (λ (p : i ≡ x). subst P (sym p) h.0) (λ (p : i ≡ y). subst P (sym p) h.1) e
-
 -- an expression that a marked expression reaches is marked
 marked_reach : {F : Type 0} (ns : List (SymbolicExpr (BaseLeaf F))) (marks : List (Option ℕ)) (from i : ℕ) → AreClosed ns marks → Marked marks from → ReachedFrom base_leaves ns (from ∷ []) i → Marked marks i
 marked_reach ns marks from i closed at (root c) = subst (λ j. Marked marks j) (only c) at
@@ -35,7 +28,7 @@ marked_reach ns marks from i closed at (root c) = subst (λ j. Marked marks j) (
     only : Contains (from ∷ []) i → from ≡ i
     only c = let first : c.0 ≡ 0 = omega (arith, c.1) in sym (ap (λ (j : ℕ). slice_index_or (from ∷ []) j i) first) ∙ c.2
 marked_reach ns marks from i closed at (operand {j = j} {n = n} h is op) =
-    each_operand (λ k. Marked marks k) i n (closed.operands j n (marked_reach ns marks from j closed at h) is) op
+    All-contains (λ k. Marked marks k) (operands n) i (closed.operands j n (marked_reach ns marks from j closed at h) is) op
 
 both_true : (a b : Bool) → a && b ≡ true → a ≡ true
 both_true true b h = refl

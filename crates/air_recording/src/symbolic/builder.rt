@@ -8,8 +8,9 @@ use crate::layouts::air_layout::AirLayout;
 use crate::layouts::constraint_layout::ConstraintLayout;
 use crate::symbolic::constraints::Constraints;
 use crate::symbolic::row::{AllEntries, all_entries_of};
-use crate::symbolic::selectors::{Selectors, make_selectors};
+use crate::symbolic::selectors::make_selectors;
 use air_builder::{AirBuilder, AirError};
+use air_core::Selectors;
 use air_field::{ExtensionField, Field};
 use air_symbolic::{BaseLeaf, ExprId, ExprPool, ExtLeaf};
 use std::alloc::Global;
@@ -21,7 +22,7 @@ pub struct SymbolicAirBuilder<F: Field, EF: ExtensionField<F>> {
     pub(crate) alloc: Global,
     pub(crate) entries: AllEntries<F, EF>,
     pub(crate) pool: ExprPool<ExtLeaf<F, EF>>,
-    pub(crate) selectors: Selectors<F>,
+    pub(crate) selectors: Selectors<ExprId<BaseLeaf<F>>>,
     pub(crate) constraints: Constraints<F, EF>,
 }
 

@@ -102,15 +102,15 @@ impl<F: Field, EF: ExtensionField<F>> AirBuilder for SymbolicAirBuilder<F, EF> {
     }
 
     fn is_first_row(&mut self) -> Result<ExprId<BaseLeaf<F>>, AirError> {
-        Ok(self.selectors.first_row)
+        Ok(self.selectors.is_first_row)
     }
 
     fn is_last_row(&mut self) -> Result<ExprId<BaseLeaf<F>>, AirError> {
-        Ok(self.selectors.last_row)
+        Ok(self.selectors.is_last_row)
     }
 
     fn is_transition(&mut self) -> Result<ExprId<BaseLeaf<F>>, AirError> {
-        Ok(self.selectors.transition)
+        Ok(self.selectors.is_transition)
     }
 
     fn assert_zero(&mut self, x: ExprId<BaseLeaf<F>>) -> Result<(), AirError> {

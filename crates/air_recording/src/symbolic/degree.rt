@@ -1,10 +1,8 @@
 //! The degree inferred for the constraints of an AIR.
-ghost use Rattle.std.specs.Prelude.{◌≡◌, ◌<◌, ◌^◌, ◌++◌, IfOk, IfErr, OnOk, All};
+ghost use Rattle.std.specs.Prelude.{◌≡◌, ℕ, ◌<◌, length, map, IfOk, IfErr, OnOk, All};
 ghost use Rattle.air_field.specs.Degree.{cached_weight, greatest_degree, quotient_degree};
-ghost use Rattle.air_symbolic.specs.BaseLeaves.{base_reads};
-ghost use Rattle.air_symbolic.specs.ExtLeaves.{ext_reads};
+ghost use Rattle.air_symbolic.specs.DegreeTables.{capped, AreDegrees};
 ghost use Rattle.air_symbolic.specs.Pools.{FitsBase, size};
-ghost use Rattle.air_symbolic.specs.PoolRefusals.{AnswersDegree};
 ghost use Rattle.air_symbolic.specs.Weights.{leaf_weight};
 ghost use Rattle.air_recording.specs.Layouts.{LayoutSuits};
 ghost use Rattle.air_recording.specs.Recorded.{terms_of};
@@ -15,7 +13,7 @@ use crate::symbolic::builder::SymbolicAirBuilder;
 use crate::symbolic::record::{Recorded, get_all_symbolic_constraints};
 use air_builder::{Air, AirError, BaseAir};
 use air_field::{ExtensionField, Field, RingError, SelfExtension};
-use air_symbolic::{BaseLeaf, ExprId, ExprPool, ExtLeaf, LeafWeight, SymLeaf};
+use air_symbolic::{DegreeTable, ExprId, ExprPool, LeafWeight, SymLeaf, checked_degree};
 use std::alloc::Global;
 
 /// The constraint degree of a polynomial of degree `poly_degree` over `trace_len` rows: 0 for degree 0, else
@@ -23,10 +21,17 @@ use std::alloc::Global;
 pub fn constraint_degree_from_poly_degree(poly_degree: usize, trace_len: usize) -> usize
     ensures { result ≡ quotient_degree poly_degree trace_len }
 {
+    quotient_of(poly_degree as u128, trace_len) as usize
+}
+
+/// As [`constraint_degree_from_poly_degree`], in 128 bits.
+fn quotient_of(poly_degree: u128, trace_len: usize) -> u128
+    ensures { result ≡ quotient_degree poly_degree trace_len }
+{
     if poly_degree == 0 {
         return 0;
     }
-    (poly_degree - 1).div_ceil(trace_len.saturating_sub(1).max(1))
+    (poly_degree - 1).div_ceil(trace_len.saturating_sub(1).max(1) as u128)
 }
 
 /// The greatest cached degree of these expressions; 0 for the empty list.
@@ -42,55 +47,34 @@ fn greatest_cached<A: SymLeaf>(pool: &ExprPool<A>, numbers: &[ExprId<A>]) -> usi
     greatest
 }
 
-/// The greatest cached degree of these base and extension expressions; 0 if both lists are empty.
-pub(crate) fn greatest_recorded<F: Field, EF: ExtensionField<F>>(
-    pool: &ExprPool<ExtLeaf<F, EF>>,
-    base: &[ExprId<BaseLeaf<F>>],
-    ext: &[ExprId<ExtLeaf<F, EF>>],
-) -> usize
-    requires owed { FitsBase (ext_reads EF.basis) pool.now }
-    requires base_here { All (λ i. i < size pool.now.base) base.now }
-    requires ext_here { All (λ i. i < size pool.now) ext.now }
-    ensures value { result ≡ greatest_degree cached_weight
-        (terms_of base_reads pool.now.base base.now
-        ++ terms_of (ext_reads EF.basis) pool.now ext.now) }
-    ensures fits { result < 2 ^ 64 }
-{
-    let base = greatest_cached(pool.base(), base);
-    let ext = greatest_cached(pool, ext);
-    base.max(ext)
-}
-
-/// The greatest of these numbers; 0 for the empty list.
-fn greatest_of(numbers: &[usize]) -> usize
-    ensures value { result ≡ greatest_in numbers.now }
-    ensures fits { result < 2 ^ 64 }
+/// The greatest of the numbers' degrees in a table; 0 for the empty list.
+fn greatest_at<A: Copy>(table: &DegreeTable, numbers: &[ExprId<A>]) -> u128
+    requires { All (λ i. i < length table.now.degrees.items) numbers.now }
+    ensures { (degree : ℕ → ℕ) →
+        AreDegrees degree (length table.now.degrees.items) table.now.degrees.items →
+        result ≡ capped (greatest_in (map degree numbers.now)) }
 {
     let mut greatest = 0;
     for number in numbers {
-        greatest = greatest.max(*number);
+        greatest = greatest.max(table.degrees[number.number()]);
     }
     greatest
 }
 
-/// The greatest degree of all recorded constraints, by the leaves' weights; 0 if there are none. One table for each
-/// pool serves all of them. The numbers must be in the pool. `DegreeOverflow` means that the greatest degree exceeds
-/// `usize`.
+/// The greatest degree of all recorded constraints, by the leaves' weights, or 2^128 - 1 if it is greater than that; 0
+/// if there are none. One table for each pool serves all of them. The numbers must be in the pool.
 pub fn greatest_degree_of<F: Field, EF: ExtensionField<F>>(
     recorded: &Recorded<F, EF>,
     weight: LeafWeight<'_>,
-) -> Result<usize, RingError>
+) -> Result<u128, RingError>
     requires base_here { All (λ i. i < size recorded.now.pool.base) recorded.now.base }
     requires ext_here { All (λ i. i < size recorded.now.pool) recorded.now.ext }
-    ensures answer { AnswersDegree (greatest_degree (leaf_weight weight.entry)
-        (recorded_terms EF.basis recorded.now)) result }
-    ensures fits { OnOk result (greatest_degree (leaf_weight weight.entry)
-        (recorded_terms EF.basis recorded.now) < 2 ^ 64) }
+    ensures greatest { IfOk result (λ d. d ≡ capped (greatest_degree (leaf_weight weight.entry)
+        (recorded_terms EF.basis recorded.now))) }
+    ensures refused { IfErr result (λ e. e ≡ RingError.Memory) }
 {
-    let (base, ext) = recorded
-        .pool
-        .degrees_with_base(&recorded.base, &recorded.ext, weight)?;
-    Ok(greatest_of(&base.values).max(greatest_of(&ext.values)))
+    let (base, ext) = recorded.pool.degree_tables(weight)?;
+    Ok(greatest_at(&base, &recorded.base).max(greatest_at(&ext, &recorded.ext)))
 }
 
 /// The degree inferred for a linear transition selector: the constraint degree of the greatest polynomial degree over
@@ -107,7 +91,7 @@ fn trace_degree_of<F: Field, EF: ExtensionField<F>>(
 {
     let weight = LeafWeight::Trace { trace_len, periods };
     let greatest = greatest_degree_of(recorded, weight)?;
-    let degree = constraint_degree_from_poly_degree(greatest, trace_len);
+    let degree = checked_degree(quotient_of(greatest, trace_len))?;
     if !periods.is_empty() {
         return Ok(degree);
     }
@@ -121,8 +105,7 @@ fn trace_degree_of<F: Field, EF: ExtensionField<F>>(
 /// periodic, at least their greatest cached degree. For a weight from 1 it is their greatest degree by the cached
 /// weights, with this one for the transition selector, whatever `trace_len` and `periods` are.
 ///
-/// The numbers must be in the pool. `DegreeOverflow` means that their greatest degree, as the domain counts, exceeds
-/// `usize`.
+/// The numbers must be in the pool. `DegreeOverflow` means that the inferred degree exceeds `usize`.
 fn degree_of<F: Field, EF: ExtensionField<F>>(
     recorded: &Recorded<F, EF>,
     trace_len: usize,
@@ -137,7 +120,9 @@ fn degree_of<F: Field, EF: ExtensionField<F>>(
     if transition_weight == 0 {
         return trace_degree_of(recorded, trace_len, periods);
     }
-    greatest_degree_of(recorded, LeafWeight::Transition(transition_weight))
+    let weight = LeafWeight::Transition(transition_weight);
+    let greatest = greatest_degree_of(recorded, weight)?;
+    checked_degree(greatest)
 }
 
 /// The lengths of periodic columns, in order.
@@ -184,8 +169,7 @@ pub fn infer_degree<F: Field, EF: ExtensionField<F>, A: BaseAir<F>>(
 /// at most d (`trace_len` - 1), where d is the answer, if each leaf's polynomial has degree at most its weight times
 /// (`trace_len` - 1). No smaller d bounds the recorded terms' degrees.
 ///
-/// It fails as the recording does, and with `DegreeOverflow` if a recorded degree exceeds `usize`: a polynomial degree
-/// for weight 0, a degree by these weights for a weight from 1.
+/// It fails as the recording does, and with `DegreeOverflow` if the inferred degree exceeds `usize`.
 pub fn get_max_constraint_degree_extension<
     F: Field,
     EF: ExtensionField<F>,

@@ -13,7 +13,6 @@ use crate::layouts::air_layout::AirLayout;
 use crate::layouts::constraint_layout::ConstraintLayout;
 use crate::symbolic::builder::SymbolicAirBuilder;
 use crate::symbolic::constraints::Constraints;
-use crate::symbolic::degree::greatest_recorded;
 use air_builder::{Air, AirError};
 use air_field::{ExtensionField, Field, SelfExtension};
 use air_symbolic::{BaseLeaf, ExprId, ExprPool, ExtLeaf};
@@ -86,12 +85,6 @@ fn record<F: Field, EF: ExtensionField<F>, A: Air<SymbolicAirBuilder<F, EF>>>(
     layout.validate_against_air(air)?;
     let mut builder = SymbolicAirBuilder::new(alloc, layout)?;
     air.eval(&mut builder)?;
-    // The pool keeps these degrees as `usize`; reading them lets the proof use that.
-    let _greatest = greatest_recorded(
-        &builder.pool,
-        &builder.constraints.base,
-        &builder.constraints.ext,
-    );
     Ok(builder)
 }
 

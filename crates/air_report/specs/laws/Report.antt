@@ -7,8 +7,8 @@ use Rattle.std.proofs.lemmas.Grind.{flat_map-append}
 use Rattle.air_field.specs.Ring.{CommRing}
 use Rattle.air_field.specs.Assignment.{Trace, row_assignment}
 use Rattle.air_builder.specs.Assertion.{Assertion}
-use Rattle.air_report.specs.Report.{assertion_value, all_places, is_nonzero, place, report_of}
-use Rattle.air_report.specs.Debug.{nonzero_from}
+use Rattle.air_report.specs.Report.{all_places, place, report_by, report_of, zero_at}
+use Rattle.air_report.specs.Debug.{nonzero_by, nonzero_from}
 
 range_more : (a n : ℕ) → range_with_len a (suc n) ≡ range_with_len a n ++ (a + n) ∷ []
 range_more a zero = ap (λ m. m ∷ []) (omega arith)
@@ -23,13 +23,12 @@ all_places-more {F = F} ts h =
     ap (flat_map f) (range_more 0 h ∙ ap (λ m. range_with_len 0 h ++ m ∷ []) e)
     ∙ (flat_map-append f (range_with_len 0 h) (h ∷ []) ∙ ap (λ l. flat_map f (range_with_len 0 h) ++ l) (append-nil (f h)))
 
-module _ {F : Type 0} (r : CommRing F) (eq : F → F → Bool) (trace : Trace F) where
+module _ {F : Type 0} (zero_at : ℕ → Assertion F → Bool) where
   row_places : (h : ℕ) (es : List (ℕ × Assertion F))
-      → map place (filter (is_nonzero r eq trace) (map (λ p. (h, p)) es))
-      ≡ map (λ k. (h, k))
-      (map (λ p. p.0) (filter (λ p. not (eq (assertion_value r (row_assignment r trace h) p.1) r.zero)) es))
+      → map place (filter (λ p. not (zero_at p.0 p.1.1)) (map (λ p. (h, p)) es))
+      ≡ map (λ k. (h, k)) (map (λ p. p.0) (filter (λ p. not (zero_at h p.1)) es))
   row_places h [] = refl
-  row_places h (e ∷ es) = step (not (eq (assertion_value r (row_assignment r trace h) e.1) r.zero)) _ _ (row_places h es)
+  row_places h (e ∷ es) = step (not (zero_at h e.1)) _ _ (row_places h es)
     where
       step : (b : Bool) (us : List (ℕ × (ℕ × Assertion F))) (vs : List (ℕ × Assertion F))
           → map place us ≡ map (λ k. (h, k)) (map (λ (p : ℕ × Assertion F). p.0) vs)
@@ -43,12 +42,17 @@ module _ {F : Type 0} (r : CommRing F) (eq : F → F → Bool) (trace : Trace F)
           ]
 
   -- one more row
-  pub report_of-more : (ts : List (Assertion F)) (h : ℕ) → report_of r eq trace ts (h + 1) ≡ report_of r eq trace ts h ++ map (λ k. (h, k)) (nonzero_from r eq (row_assignment r trace h) 0 ts)
-  report_of-more ts h =
-      let test : ℕ × (ℕ × Assertion F) → Bool = is_nonzero r eq trace in
+  pub report_by-more : (ts : List (Assertion F)) (h : ℕ)
+      → report_by zero_at ts (h + 1) ≡ report_by zero_at ts h ++ map (λ k. (h, k)) (nonzero_by (zero_at h) 0 ts)
+  report_by-more ts h =
+      let test : ℕ × (ℕ × Assertion F) → Bool = λ p. not (zero_at p.0 p.1.1) in
       let s : h + 1 ≡ suc h = omega arith in
-      ap (λ n. report_of r eq trace ts n) s
+      ap (λ n. report_by zero_at ts n) s
       ∙ (ap (λ l. map place (filter test l)) (all_places-more ts h)
       ∙ (ap (map place) (filter-append test (all_places h ts) (map (λ p. (h, p)) (enumerate_from 0 ts)))
       ∙ (map-append place (filter test (all_places h ts)) (filter test (map (λ p. (h, p)) (enumerate_from 0 ts)))
-      ∙ ap (λ l. report_of r eq trace ts h ++ l) (row_places h (enumerate_from 0 ts)))))
+      ∙ ap (λ l. report_by zero_at ts h ++ l) (row_places h (enumerate_from 0 ts)))))
+
+pub report_of-more : {F : Type 0} (r : CommRing F) (eq : F → F → Bool) (trace : Trace F) (ts : List (Assertion F)) (h : ℕ)
+    → report_of r eq trace ts (h + 1) ≡ report_of r eq trace ts h ++ map (λ k. (h, k)) (nonzero_from r eq (row_assignment r trace h) 0 ts)
+report_of-more r eq trace ts h = report_by-more (zero_at r eq trace) ts h

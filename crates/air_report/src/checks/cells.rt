@@ -1,9 +1,9 @@
 //! Boundary values of a whole trace.
 ghost use Rattle.std.specs.Prelude.{◌≡◌, ◌+◌, ◌<◌, ◌≤◌, ◌^◌, ◌⊎◌, Some, IfOk, IfErr, OnOk, MatchOption, length};
-ghost use Rattle.air_report.specs.Cells.{differs, differing_cells, take_within_cap, ListsCells, IsListedPast, cell_label, label_text, CellsFit, IsCellFault, AgreeBelow, IsFirstDiffering};
+ghost use Rattle.air_report.specs.Cells.{is_violated, violated_cells, take_within_cap, ListsCells, IsListedPast, cell_label, label_text, CellsFit, IsCellFault, HoldBelow, IsFirstViolated};
 ghost use Rattle.air_report.specs.Report.{failure_place};
 
-use crate::checks::check::{is_reached, main_row};
+use crate::checks::check::is_reached;
 use crate::debug::failure::ConstraintFailure;
 use air_builder::{AirError, BoundaryPublic};
 use air_core::boundary::validate;
@@ -27,29 +27,33 @@ pub(crate) fn check_cells<F: Field>(
     Ok(())
 }
 
-/// Whether the boundary value differs from its public value.
-fn differs<F: Field>(cell: &BoundaryPublic, main: &RowMajorMatrix<F>, public_values: &[F]) -> bool
+/// Whether the boundary value is violated: its cell doesn't hold the public value.
+fn is_violated<F: Field>(
+    cell: &BoundaryPublic,
+    main: &RowMajorMatrix<F>,
+    public_values: &[F],
+) -> bool
     requires rows { 0 < length main.now.rows }
     requires column { cell.now.column < main.now.width }
     requires value { cell.now.public_value < length public_values.now }
-    ensures { result ≡ differs F.ring F.eq main.now public_values.now cell.now }
+    ensures { result ≡ is_violated F.ring F.eq main.now public_values.now cell.now }
 {
-    let row = main_row(main, cell.row(main.height()));
+    let row = main.row(cell.row(main.height()));
     !(row[cell.column] == public_values[cell.public_value])
 }
 
-/// The index of the first boundary value that differs from its public value.
-pub(crate) fn first_mismatch<F: Field>(
+/// The index of the first violated boundary value.
+pub(crate) fn first_violated<F: Field>(
     cells: &[BoundaryPublic],
     main: &RowMajorMatrix<F>,
     public_values: &[F],
 ) -> Option<usize>
     requires { CellsFit main.now public_values.now cells.now }
-    ensures { MatchOption result (AgreeBelow F.ring F.eq main.now public_values.now cells.now
-        (length cells.now)) (IsFirstDiffering F.ring F.eq main.now public_values.now cells.now) }
+    ensures { MatchOption result (HoldBelow F.ring F.eq main.now public_values.now cells.now
+        (length cells.now)) (IsFirstViolated F.ring F.eq main.now public_values.now cells.now) }
 {
     for (index, cell) in cells.iter().enumerate() {
-        if differs(cell, main, public_values) {
+        if is_violated(cell, main, public_values) {
             return Some(index);
         }
     }
@@ -85,7 +89,7 @@ fn cell_failure(
     })
 }
 
-/// Adds the failures of the boundary values that differ, in order, as many as the cap leaves. `CountOverflow` means
+/// Adds the failures of the violated boundary values, in order, as many as the cap leaves. `CountOverflow` means
 /// that a listed one's constraint index exceeds `usize`.
 pub(crate) fn list_cells<F: Field>(
     alloc: Global,
@@ -99,19 +103,19 @@ pub(crate) fn list_cells<F: Field>(
     requires { CellsFit main.now public_values.now cells.now }
     ensures listed { OnOk result (ListsCells (length main.now.rows) count
         (take_within_cap max_failures (length failures.old.items)
-        (differing_cells F.ring F.eq main.now public_values.now cells.now)) failures.old.items
+        (violated_cells F.ring F.eq main.now public_values.now cells.now)) failures.old.items
         failures.new.items) }
     ensures refused { IfErr result (λ e. (e ≡ AirError.Memory)
         ⊎ ((e ≡ AirError.CountOverflow) × IsListedPast count
         (take_within_cap max_failures (length failures.old.items)
-        (differing_cells F.ring F.eq main.now public_values.now cells.now)))) }
+        (violated_cells F.ring F.eq main.now public_values.now cells.now)))) }
 {
     let height = main.height();
     'cells: for (place, cell) in cells.iter().enumerate() {
         if is_reached(max_failures, failures.len()) {
             return Ok(());
         }
-        if !differs(cell, main, public_values) {
+        if !is_violated(cell, main, public_values) {
             continue;
         }
         let failure = cell_failure(alloc, cell, cell.row(height), count, place)?;

@@ -1,10 +1,11 @@
 //! A check of a whole trace.
-ghost use Rattle.std.specs.Prelude.{IsTrue, ◌↔◌, ◌≡◌, ◌+◌, ◌%◌, Some, slice_get, ◌<◌, length, IfOk, IfErr, IfSome, OnOk};
+ghost use Rattle.std.specs.Prelude.{IsTrue, ◌↔◌, ◌≡◌, ◌+◌, ◌%◌, slice_get, ◌<◌, length, IfOk, IfErr, IfSome, OnOk};
 ghost use Rattle.std.specs.Option.{option_copied};
-ghost use Rattle.air_field.specs.Assignment.{selector, row_or_none};
+ghost use Rattle.air_field.specs.Assignment.{row_or_none};
+ghost use Rattle.air_field.specs.Grid.{table_grid};
 ghost use Rattle.air_report.specs.Report.{IsReached};
-ghost use Rattle.air_report.specs.DebugRow.{row_selectors};
-ghost use Rattle.air_report.specs.Instances.{instance, table_grid};
+ghost use Rattle.air_report.specs.Instances.{instance};
+ghost use Rattle.air_report.specs.RowLabels.{LabelledRow, LabelsChecked, LabelsRows};
 ghost use Rattle.air_report.specs.Checks.{CheckRefuses, CheckedRow, CheckedRows, Fits, HasEntries, IsReport, RowRefuses, RowsRefuse};
 
 use crate::checks::cells::{check_cells, list_cells};
@@ -12,67 +13,21 @@ use crate::checks::report::ConstraintReport;
 use crate::checks::shapes::{check_shapes, table_height};
 use crate::debug::builder::DebugConstraintBuilder;
 use crate::debug::failure::ConstraintFailure;
-use crate::debug::row::{Row, Selectors};
+use crate::debug::row::Row;
 use air_builder::{Air, AirError};
-use air_core::periodic::fill_periodic_row;
-use air_field::{Field, RowMajorMatrix, RowMajorMatrixView, SelfExtension, ViewPair};
+use air_core::{Selectors, fill_periodic_row};
+use air_field::{
+    ExtensionField, Field, RowMajorMatrix, RowMajorMatrixView, SelfExtension, ViewPair,
+};
 use std::alloc::Global;
-
-/// One if `on`, else zero.
-#[inline(always)]
-fn selector<F: Field>(on: bool) -> F
-    ensures { result ≡ selector F.ring on }
-{
-    if on { F::ONE } else { F::ZERO }
-}
-
-/// The selectors at a row of a trace of this height.
-#[inline(always)]
-fn selectors_at<F: Field>(row: usize, height: usize) -> Selectors<F>
-    requires { row < height }
-    ensures { result ≡ row_selectors F.ring row height }
-{
-    Selectors {
-        is_first_row: selector(row == 0),
-        is_last_row: selector(row + 1 == height),
-        is_transition: selector(row + 1 != height),
-    }
-}
-
-/// A row of the trace; it must be in range.
-#[inline(always)]
-pub(crate) fn main_row<'a, F: Field>(main: &'a RowMajorMatrix<F>, row: usize) -> &'a [F]
-    requires { row < length main.now.rows }
-    ensures row { slice_get main.now.rows row ≡ Some result.now }
-    ensures width { length result.now ≡ main.now.width }
-{
-    match main.row_slice(row) {
-        Some(values) => values,
-        None => unreachable!(),
-    }
-}
-
-/// The views of a row and of the next one around the end.
-#[inline(always)]
-fn row_pair<'a, F: Field>(main: &'a RowMajorMatrix<F>, row: usize) -> ViewPair<'a, F>
-    requires { row < length main.now.rows }
-    ensures top { slice_get main.now.rows row ≡ Some result.top.values.now }
-    ensures bottom { slice_get main.now.rows ((row + 1) % length main.now.rows) ≡ Some
-        result.bottom.values.now }
-    ensures width { length result.top.values.now ≡ main.now.width }
-{
-    let height = main.height();
-    let next = if row + 1 == height { 0 } else { row + 1 };
-    ViewPair::new(
-        RowMajorMatrixView::new_row(main_row(main, row)),
-        RowMajorMatrixView::new_row(main_row(main, next)),
-    )
-}
 
 /// The views of a row of the preprocessed trace and of the next one around the end; without a preprocessed trace they
 /// have no columns.
 #[inline(always)]
-fn table_pair<'a, F: Field>(table: Option<&'a RowMajorMatrix<F>>, row: usize) -> ViewPair<'a, F>
+pub(crate) fn table_pair<'a, F: Field>(
+    table: Option<&'a RowMajorMatrix<F>>,
+    row: usize,
+) -> ViewPair<'a, F>
     requires { IfSome table (λ t. row < length t.now.rows) }
     ensures top { result.top.values.now ≡ row_or_none
         (slice_get (table_grid (option_copied table.entry)).rows row) }
@@ -82,7 +37,7 @@ fn table_pair<'a, F: Field>(table: Option<&'a RowMajorMatrix<F>>, row: usize) ->
     ensures width { length result.top.values.now ≡ (table_grid (option_copied table.entry)).width }
 {
     match table {
-        Some(table) => row_pair(table, row),
+        Some(table) => table.row_pair(row),
         None => {
             let none = RowMajorMatrixView::new_row(&[]);
             ViewPair::new(none, none)
@@ -98,7 +53,9 @@ pub(crate) struct RowOutcome {
 }
 
 /// Ends a check: takes the failures and the last row's counter from the builder.
-fn outcome_of<F: SelfExtension>(builder: DebugConstraintBuilder<'_, F, F>) -> RowOutcome
+pub(crate) fn outcome_of<F: Field, EF: ExtensionField<F>>(
+    builder: DebugConstraintBuilder<'_, F, EF>,
+) -> RowOutcome
     ensures failures { result.failures ≡ builder.entry.failures }
     ensures constraints { result.constraints ≡ builder.entry.constraint_index }
 {
@@ -127,15 +84,16 @@ pub(crate) fn check_row<'a, F: SelfExtension + 'static, A: Air<DebugConstraintBu
         (instance (A.declaration air.now) main.now public_values.now)) }
     ensures refused { IfErr result (RowRefuses
         (instance (A.declaration air.now) main.now public_values.now)) }
+    ensures labels { OnOk result (LabelledRow (A.labels air.now) row builder.old.failures.items
+        builder.new.failures.items) }
 {
-    let height = main.height();
     fill_periodic_row(&mut builder.periodic_row, air.periodic_columns(), row)?;
     builder.move_to(Row::new(
         row,
-        row_pair(main, row),
+        main.row_pair(row),
         table_pair(air.preprocessed_trace(), row),
         public_values,
-        selectors_at(row, height),
+        Selectors::at(row, main.height()),
     ));
     air.eval(builder)
 }
@@ -166,6 +124,9 @@ fn check_rows<'a, F: SelfExtension + 'static, A: Air<DebugConstraintBuilder<'a, 
         c.failures.items c.constraints) }
     ensures refused { IfErr result (RowsRefuse max_failures
         (instance (A.declaration air.now) main.now public_values.now)) }
+    ensures labels { IfOk result (λ c. LabelsChecked F.ring F.eq
+        (instance (A.declaration air.now) main.now public_values.now) max_failures
+        (A.labels air.now) c.failures.items c.constraints) }
 {
     let mut builder = DebugConstraintBuilder::at_no_row(alloc);
     'rows: for row in 0..main.height() {
@@ -180,7 +141,7 @@ fn check_rows<'a, F: SelfExtension + 'static, A: Air<DebugConstraintBuilder<'a, 
 /// Checks the shapes of the preprocessed trace and of the periodic columns. Then evaluates the AIR on the rows of the
 /// trace, each paired with the next one around the end, while there are fewer failures than `max_failures`. Then
 /// compares the boundary values with their public values. The report lists each constraint that isn't zero, by row and
-/// then by constraint index, and then the boundary values that differ, in order, as many as the cap leaves.
+/// then by constraint index, and then the violated boundary values, in order, as many as the cap leaves.
 ///
 /// Errors, in this order: the first shape that doesn't fit; if a row runs, a missing entry that a constraint names, or
 /// a count past `usize`; the first boundary value that doesn't fit the trace, or boundary values of a trace without
@@ -201,6 +162,9 @@ pub fn check_all_constraints<
         (instance (A.declaration air.now) main.now public_values.now) max_failures) }
     ensures refused { IfErr result (CheckRefuses F.ring F.eq
         (instance (A.declaration air.now) main.now public_values.now) max_failures) }
+    ensures labels { IfOk result (LabelsRows F.ring F.eq
+        (instance (A.declaration air.now) main.now public_values.now) max_failures
+        (A.labels air.now)) }
 {
     let total_rows = main.height();
     check_shapes(

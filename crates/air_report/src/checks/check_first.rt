@@ -2,9 +2,10 @@
 ghost use Rattle.std.specs.Prelude.{◌≡◌, OnOk, IfErr};
 ghost use Rattle.air_report.specs.Checks.{IsSatisfied, IsFirstError};
 ghost use Rattle.air_report.specs.Instances.{instance};
+ghost use Rattle.air_report.specs.RowLabels.{LabelsFailedRow};
 ghost use Rattle.air_report.specs.declared.checks.check_first.CheckError.TheVariants.{Refused};
 
-use crate::checks::cells::{check_cells, first_mismatch};
+use crate::checks::cells::{check_cells, first_violated};
 use crate::checks::check::check_row;
 use crate::checks::shapes::{check_shapes, table_height};
 use crate::debug::builder::DebugConstraintBuilder;
@@ -17,7 +18,7 @@ use thiserror::Error;
 /// Why a trace doesn't satisfy its constraints, or why the check stopped.
 #[derive(Debug, Drop, Error)]
 pub enum CheckError {
-    /// A boundary value differs from its public value: the index of the first such in the AIR's list, and its row.
+    /// A boundary value is violated: the index of the first such in the AIR's list, and its row.
     #[error("boundary-IO cell {index} does not hold its public value on row {row}")]
     BoundaryMismatch {
         row: usize,
@@ -46,9 +47,9 @@ impl From<AirError> for CheckError {
 /// public values, and evaluates the AIR on the rows of the trace, each paired with the next one around the end, up to
 /// the first row with a constraint that isn't zero.
 ///
-/// It is Ok only if no boundary value differs and no constraint fails at any row. The error is the first fault in this
+/// It is Ok only if no boundary value is violated and no constraint fails at any row. The error is the first fault in this
 /// order: a shape that doesn't fit, a boundary value that doesn't fit the trace, or boundary values of a trace without
-/// rows (all these are `Refused`); a boundary value that differs (`BoundaryMismatch`); the first row that fails, with
+/// rows (all these are `Refused`); a violated boundary value (`BoundaryMismatch`); the first row that fails, with
 /// all its failures (`RowFailed`), or that is refused for a missing entry that a constraint names or for a count past
 /// `usize`. So boundary values come before the rows here, and after them in `check_all_constraints`. `Memory` occurs
 /// only if the shapes fit and each boundary value equals its public value.
@@ -62,6 +63,7 @@ pub fn check_constraints<'a, F: SelfExtension + 'static, A: Air<DebugConstraintB
         (instance (A.declaration air.now) main.now public_values.now)) }
     ensures error { IfErr result (IsFirstError F.ring F.eq
         (instance (A.declaration air.now) main.now public_values.now)) }
+    ensures labels { IfErr result (LabelsFailedRow (A.labels air.now)) }
 {
     let height = main.height();
     check_shapes(
@@ -71,7 +73,7 @@ pub fn check_constraints<'a, F: SelfExtension + 'static, A: Air<DebugConstraintB
     )?;
     let cells = air.public_boundary_io();
     check_cells(cells, main, public_values)?;
-    if let Some(index) = first_mismatch(cells, main, public_values) {
+    if let Some(index) = first_violated(cells, main, public_values) {
         return Err(CheckError::BoundaryMismatch {
             row: cells[index].row(height),
             index,

@@ -1,8 +1,8 @@
 //! Which preprocessed traces and periodic columns fit a trace.
-ghost use Rattle.std.specs.Prelude.{◌≡◌, ◌↔◌, IsTrue};
+ghost use Rattle.std.specs.Prelude.{◌≡◌, ◌↔◌, IsTrue, IfErr, OnOk};
 ghost use Rattle.std.specs.Option.{option_copied};
 ghost use Rattle.std.specs.Int.{IsPowerOfTwo};
-ghost use Rattle.air_report.specs.Shapes.{MatchShapes, table_height};
+ghost use Rattle.air_report.specs.Shapes.{IsHeightFault, MatchShapes, table_height};
 
 use air_builder::AirError;
 use air_field::RowMajorMatrix;
@@ -53,6 +53,20 @@ pub(crate) fn check_shapes<T: Copy>(
                 height,
             });
         }
+    }
+    Ok(())
+}
+
+/// Checks that a permutation trace of this height fits a trace.
+pub(crate) fn check_permutation_height(permutation: usize, height: usize) -> Result<(), AirError>
+    ensures fits { OnOk result (permutation ≡ height) }
+    ensures refused { IfErr result (IsHeightFault permutation height) }
+{
+    if permutation != height {
+        return Err(AirError::PermutationHeight {
+            permutation,
+            main: height,
+        });
     }
     Ok(())
 }

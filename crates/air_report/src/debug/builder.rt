@@ -1,11 +1,12 @@
 //! The debug builder: it holds the values of one row, and evaluates assertions there.
 ghost use Rattle.std.specs.Prelude.{◌≡◌, ◌≢◌, ◌↔◌, IsTrue, [], None, Some, IfOk, IfErr, IfSome, string_bytes};
-ghost use Rattle.air_report.specs.DebugRow.{IsAtRow, StandsAt, counted_from, failures_of};
+ghost use Rattle.air_report.specs.DebugRow.{IsAtRow, IsMovedTo, StandsAt, counted_from, failures_of};
 ghost use Rattle.air_report.specs.FailureTexts.{failures_text};
 
 use crate::debug::failure::{ConstraintFailure, failures_text};
-use crate::debug::row::{Row, Selectors};
+use crate::debug::row::Row;
 use air_builder::{AirError, RowWindow};
+use air_core::Selectors;
 use air_field::{ExtFieldRing, ExtensionField, Field, FieldRing, RowMajorMatrixView, ViewPair};
 use std::alloc::Global;
 
@@ -92,6 +93,25 @@ impl<'a, F: Field, EF: ExtensionField<F>> DebugConstraintBuilder<'a, F, EF> {
         self.permutation = None;
         self.permutation_challenges = &[];
         self.permutation_values = &[];
+        self.constraint_index = 0;
+    }
+
+    /// Moves to a row with permutation data, as `move_to` does without.
+    #[inline(always)]
+    pub(crate) fn move_to_permuted(
+        &mut self,
+        row: Row<'a, F>,
+        permutation: ViewPair<'a, EF>,
+        permutation_challenges: &'a [EF],
+        permutation_values: &'a [EF],
+    )
+        ensures { IsMovedTo row.entry self.old.periodic_row (Some permutation.entry)
+            permutation_challenges.now permutation_values.now self.old.failures.items self.new }
+    {
+        self.row = row;
+        self.permutation = Some(permutation);
+        self.permutation_challenges = permutation_challenges;
+        self.permutation_values = permutation_values;
         self.constraint_index = 0;
     }
 

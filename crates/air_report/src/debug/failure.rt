@@ -6,7 +6,7 @@ use std::alloc::{AllocError, Global};
 use std::fmt;
 use std::fmt::Display;
 
-/// A constraint that isn't zero at a row, or a boundary value that differs from its public value.
+/// A constraint that isn't zero at a row, or a boundary value that is violated.
 ///
 /// It displays as `#k`, where k is `constraint`. A label follows as a space and the label's debug text.
 #[derive(Debug, Drop)]

@@ -2,15 +2,8 @@
 ghost use Rattle.air_report.specs.DebugRow.{IsRow};
 
 use air_builder::RowWindow;
+use air_core::Selectors;
 use air_field::{Field, ViewPair};
-
-/// The values of the three selectors at a row.
-#[derive(Drop)]
-pub(crate) struct Selectors<F: Field> {
-    pub(crate) is_first_row: F,
-    pub(crate) is_last_row: F,
-    pub(crate) is_transition: F,
-}
 
 /// A row of a trace and the next one, borrowed: of the main and of the preprocessed trace, with the public values and
 /// the selectors. The values of the periodic columns are in the builder's own list.

@@ -1,18 +1,21 @@
 -- The laws of extension leaves as the base pool grows.
-use Rattle.std.specs.Prelude.{◌≡◌, ℕ, ◌-◌, Option, None, Some, refl}
-use Rattle.std.proofs.Common.{◌∙◌, sym, subst, ap}
+use Rattle.std.specs.Prelude.{◌≡◌, ℕ, ◌-◌, ◌<◌, ◌^◌, Option, None, Some, refl}
+use Rattle.std.proofs.Common.{◌∙◌, sym, subst, ap, arith}
 use Rattle.air_field.specs.Ring.{CommRing, AlgebraOver}
 use Rattle.air_field.specs.Extension.{Basis, ExtensionLaws}
 use Rattle.air_field.specs.laws.Extension.{AllZero-replicate}
 use Rattle.air_field.specs.Term.{const_term, ext_const_term}
+use Rattle.air_field.specs.Degree.{degree_by, cached_weight}
 use Rattle.air_field.specs.Same.{Same, ext_base}
+use Rattle.air_core.specs.ExtEntries.{ext_entry_leaf}
 use Rattle.air_symbolic.specs.Leaves.{LeafLaws}
 use Rattle.air_symbolic.specs.Trees.{Tree, leaf_tree, add_tree, sub_tree, neg_tree, mul_tree, term_of, tree_constant}
 use Rattle.air_symbolic.specs.Pools.{tree_at}
 use Rattle.air_symbolic.specs.laws.Numbers.{WellFormed-none}
+use Rattle.air_symbolic.specs.laws.Sharing.{cached_in_range}
 use Rattle.air_symbolic.specs.laws.Pools.{Grown-refl, Grown-trans, has-kept, tree-kept, term-kept}
 use Rattle.air_symbolic.specs.BaseLeaves.{base_leaves, base_term, base_constant, base_reads, base_grows}
-use Rattle.air_symbolic.specs.laws.BaseLeaves.{base_leaf_laws}
+use Rattle.air_symbolic.specs.laws.BaseLeaves.{light, base_leaf_laws}
 use Rattle.air_symbolic.specs.declared.leaves.base_leaf.BaseLeaf.{BaseLeaf}
 use Rattle.air_symbolic.specs.declared.leaves.ext_leaf.ExtLeaf.{ExtLeaf}
 use Rattle.air_symbolic.specs.declared.leaves.ext_leaf.ExtLeaf.TheVariants.{Base, ExtVariable, ExtConstant}
@@ -54,8 +57,14 @@ module _ {F EF : Type 0} {r : CommRing F} {over : AlgebraOver F EF} {basis : Bas
   ext_constant-kept u v g (ExtVariable x) h = refl
   ext_constant-kept u v g (ExtConstant c) h = refl
 
+  ext_in_range : (u : BaseNodes F) (a : ExtLeaf F EF) → ext_valid u a → degree_by cached_weight (ext_term basis u a) < 2 ^ 64
+  ext_in_range u (Base i) h = cached_in_range base_leaves u.nodes h.pool.nodes i h.here
+  ext_in_range u (ExtVariable v) h = omega (arith, light (ext_entry_leaf v.entry v.index))
+  ext_in_range u (ExtConstant c) h = omega arith
+
   pub ext_leaf_laws : LeafLaws r (ext_reads basis) ext_grows no_base_nodes
   ext_leaf_laws = record {
+    in_range = ext_in_range;
     constant_is = λ u a c _ e. ext_constant-is u a c e;
     empty_sound = record { base = tt; nodes = WellFormed-none base_leaves };
     same = λ u. Grown-refl r base_reads base_grows tt (base_leaf_laws r) u;

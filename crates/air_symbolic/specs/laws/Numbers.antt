@@ -1,5 +1,5 @@
 -- Properties of a pool's numbers that stay as nodes are added and as the base grows.
-use Rattle.std.proofs.Common.{◌≡◌, ℕ, zero, suc, ◌+◌, ◌<◌, ◌≤◌, max, List, [], ◌∷◌, ◌++◌, length, take, drop, get_or, refl, sym, ap, ap₂, subst, ◌∙◌, arith, ◌⊎◌, inl, inr, ⊎_elim}
+use Rattle.std.proofs.Common.{◌≡◌, ℕ, zero, suc, ◌+◌, ◌^◌, ◌<◌, ◌≤◌, List, [], ◌∷◌, ◌++◌, length, take, drop, get_or, refl, sym, ap, subst, ◌∙◌, arith, ◌⊎◌, inl, inr, ⊎_elim}
 use Rattle.std.specs.Prelude.{Option, None, Some, slice_get, option_map}
 use Rattle.std.proofs.Math.ListN.{length-append}
 use Rattle.std.proofs.lemmas.List.{get_or_append_left, get_or_push, take-append-drop, length-take-le, take-append-le}
@@ -9,7 +9,8 @@ use Rattle.air_field.specs.Degree.{degree_by, cached_weight}
 use Rattle.air_field.specs.Term.{Term, add_term, sub_term, neg_term, mul_term}
 use Rattle.air_symbolic.specs.Leaves.{Leaves, Keeps}
 use Rattle.air_symbolic.specs.Trees.{Tree, leaf_tree, add_tree, sub_tree, neg_tree, mul_tree, both, tree_term, term_of, AllValid, IsValidTree}
-use Rattle.air_symbolic.specs.Nodes.{unfold_node, node_term, in_turn, tree_of, cached_degree, NodeFits, WellFormed}
+use Rattle.air_symbolic.specs.Nodes.{unfold_node, node_term, in_turn, tree_of, cached_degree, stated_degree, IsValidNode, NodeFits, WellFormed}
+use Rattle.air_symbolic.specs.laws.Nodes.{valid_node-weaker, node_degree-same}
 use Rattle.air_symbolic.specs.declared.pools.expr.SymbolicExpr.{SymbolicExpr}
 use Rattle.air_symbolic.specs.declared.pools.expr.SymbolicExpr.TheVariants.{Leaf, Add, Sub, Neg, Mul}
 
@@ -135,20 +136,20 @@ module _ {A : Type 0} (valid : A → Type 0) where
 module _ {A F : Type 0} (l : Leaves A F) where
   node_valid : (older : List (SymbolicExpr A)) → ((i : ℕ) → i < length older → IsValidTree l.valid (tree_of older i))
       → (n : SymbolicExpr A) → NodeFits l older n → IsValidTree l.valid (unfold_node (tree_of older) n)
-  node_valid older ih (Leaf a) h = h
-  node_valid older ih (Add x y d) h = both-valid l.valid add_tree (λ t u p q. (p, q)) (tree_of older x) (tree_of older y) (ih x h.0) (ih y h.1)
-  node_valid older ih (Sub x y d) h = both-valid l.valid sub_tree (λ t u p q. (p, q)) (tree_of older x) (tree_of older y) (ih x h.0) (ih y h.1)
-  node_valid older ih (Neg x d) h = negative-valid l.valid (tree_of older x) (ih x h.0)
-  node_valid older ih (Mul x y d) h = both-valid l.valid mul_tree (λ t u p q. (p, q)) (tree_of older x) (tree_of older y) (ih x h.0) (ih y h.1)
+  node_valid older ih (Leaf a) h = h.valid
+  node_valid older ih (Add x y d) h = both-valid l.valid add_tree (λ t u p q. (p, q)) (tree_of older x) (tree_of older y) (ih x (h.below 0 x (omega arith))) (ih y (h.below 1 y (omega arith)))
+  node_valid older ih (Sub x y d) h = both-valid l.valid sub_tree (λ t u p q. (p, q)) (tree_of older x) (tree_of older y) (ih x (h.below 0 x (omega arith))) (ih y (h.below 1 y (omega arith)))
+  node_valid older ih (Neg x d) h = negative-valid l.valid (tree_of older x) (ih x (h.below 0 x (omega arith)))
+  node_valid older ih (Mul x y d) h = both-valid l.valid mul_tree (λ t u p q. (p, q)) (tree_of older x) (tree_of older y) (ih x (h.below 0 x (omega arith))) (ih y (h.below 1 y (omega arith)))
 
   -- so the term of a node is made from its operands' terms
   pub unfold_node-term : (ns : List (SymbolicExpr A)) → ((i : ℕ) → i < length ns → IsValidTree l.valid (tree_of ns i))
       → (n : SymbolicExpr A) → NodeFits l ns n → term_of l.term (unfold_node (tree_of ns) n) ≡ node_term l.term (λ i. term_of l.term (tree_of ns i)) n
   unfold_node-term ns valid (Leaf a) h = refl
-  unfold_node-term ns valid (Add x y d) h = both-term l.valid l.term add_tree add_term (λ t u. refl) (tree_of ns x) (tree_of ns y) (valid x h.0) (valid y h.1)
-  unfold_node-term ns valid (Sub x y d) h = both-term l.valid l.term sub_tree sub_term (λ t u. refl) (tree_of ns x) (tree_of ns y) (valid x h.0) (valid y h.1)
-  unfold_node-term ns valid (Neg x d) h = negative-term l.valid l.term (tree_of ns x) (valid x h.0)
-  unfold_node-term ns valid (Mul x y d) h = both-term l.valid l.term mul_tree mul_term (λ t u. refl) (tree_of ns x) (tree_of ns y) (valid x h.0) (valid y h.1)
+  unfold_node-term ns valid (Add x y d) h = both-term l.valid l.term add_tree add_term (λ t u. refl) (tree_of ns x) (tree_of ns y) (valid x (h.below 0 x (omega arith))) (valid y (h.below 1 y (omega arith)))
+  unfold_node-term ns valid (Sub x y d) h = both-term l.valid l.term sub_tree sub_term (λ t u. refl) (tree_of ns x) (tree_of ns y) (valid x (h.below 0 x (omega arith))) (valid y (h.below 1 y (omega arith)))
+  unfold_node-term ns valid (Neg x d) h = negative-term l.valid l.term (tree_of ns x) (valid x (h.below 0 x (omega arith)))
+  unfold_node-term ns valid (Mul x y d) h = both-term l.valid l.term mul_tree mul_term (λ t u. refl) (tree_of ns x) (tree_of ns y) (valid x (h.below 0 x (omega arith))) (valid y (h.below 1 y (omega arith)))
 
   module _ (ns : List (SymbolicExpr A)) (wf : WellFormed l ns) where
     valid_below : (k i : ℕ) → i < k → i < length ns → IsValidTree l.valid (tree_of ns i)
@@ -177,17 +178,27 @@ module _ {A F : Type 0} (l m : Leaves A F) (k : Keeps l m) where
   term_of-kept (Some t) h = tree_term-kept t h
   term_of-kept None h = absurd h
 
+  stated_degree-kept : (n : SymbolicExpr A) → IsValidNode (λ a. m.term a ≡ l.term a) n → stated_degree m n ≡ stated_degree l n
+  stated_degree-kept (Leaf a) e = ap (degree_by cached_weight) e
+  stated_degree-kept _ e = refl
+
   -- for nodes whose trees are valid
   module _ (ns : List (SymbolicExpr A)) (whole : (i : ℕ) → i < length ns → IsValidTree l.valid (tree_of ns i)) where
     cached_degree-kept : (i : ℕ) → i < length ns → cached_degree l ns i ≡ cached_degree m ns i
     cached_degree-kept i b = ap (degree_by cached_weight) (sym (term_of-kept (tree_of ns i) (whole i b)))
 
     NodeFits-kept : (n : SymbolicExpr A) → NodeFits l ns n → NodeFits m ns n
-    NodeFits-kept (Leaf a) h = k.valid a h
-    NodeFits-kept (Add x y d) h = (h.0, h.1, h.2 ∙ ap₂ max (cached_degree-kept x h.0) (cached_degree-kept y h.1))
-    NodeFits-kept (Sub x y d) h = (h.0, h.1, h.2 ∙ ap₂ max (cached_degree-kept x h.0) (cached_degree-kept y h.1))
-    NodeFits-kept (Neg x d) h = (h.0, h.1 ∙ cached_degree-kept x h.0)
-    NodeFits-kept (Mul x y d) h = (h.0, h.1, h.2 ∙ ap₂ (λ a b. a + b) (cached_degree-kept x h.0) (cached_degree-kept y h.1))
+    NodeFits-kept n h =
+        let same : IsValidNode (λ a. m.term a ≡ l.term a) n = valid_node-weaker l.valid _ k.term n h.valid in
+        let stated : stated_degree m n ≡ stated_degree l n = stated_degree-kept n same in
+        record {
+          valid = valid_node-weaker l.valid m.valid k.valid n h.valid;
+          below = h.below;
+          degree =
+              stated ∙ h.degree
+              ∙ node_degree-same _ _ _ _ n (valid_node-weaker _ _ (λ a e. ap (degree_by cached_weight) (sym e)) n same) (λ j d b. cached_degree-kept _ (h.below j d b));
+          in_range = subst (λ d. d < 2 ^ 64) (sym stated) h.in_range;
+        }
 
   pub WellFormed-kept : (ns : List (SymbolicExpr A)) → WellFormed l ns → WellFormed m ns
   WellFormed-kept ns wf = record {

@@ -1,5 +1,5 @@
 -- The node of each number; no tree has two numbers.
-use Rattle.std.proofs.Common.{◌≡◌, ℕ, zero, suc, ◌+◌, ◌<◌, ◌≤◌, max, List, length, take, refl, sym, ap, ap₂, ◌∙◌, arith}
+use Rattle.std.proofs.Common.{◌≡◌, ℕ, zero, suc, [], ◌∷◌, All, ◌+◌, ◌^◌, ◌<◌, ◌≤◌, List, length, take, refl, sym, ap, ap₂, subst, ◌∙◌, arith}
 use Rattle.std.specs.Prelude.{Option, Some, slice_get, unwrap_or, option_map}
 use Rattle.std.proofs.lemmas.List.{length-take-le}
 use Rattle.std.proofs.lemmas.Option.{slice_get_within}
@@ -7,6 +7,7 @@ use Rattle.air_field.specs.Degree.{degree_by, cached_weight}
 use Rattle.air_symbolic.specs.Leaves.{Leaves}
 use Rattle.air_symbolic.specs.Trees.{Tree, leaf_tree, add_tree, sub_tree, neg_tree, mul_tree, both, term_of}
 use Rattle.air_symbolic.specs.Nodes.{unfold_node, node_term, tree_of, cached_degree, stated_degree, NodeFits, WellFormed, OperandsBelow, IsNode}
+use Rattle.air_symbolic.specs.laws.Nodes.{valid_node-weaker, unfold_node-same, node_degree-same, node_degree-is}
 use Rattle.air_symbolic.specs.laws.Numbers.{element_at, tree_of-before, tree_of-node, tree_of-valid, tree_there, unfold_node-term}
 use Rattle.air_symbolic.specs.declared.pools.expr.SymbolicExpr.{SymbolicExpr}
 use Rattle.air_symbolic.specs.declared.pools.expr.SymbolicExpr.TheVariants.{Leaf, Add, Sub, Neg, Mul}
@@ -14,11 +15,7 @@ use Rattle.air_symbolic.specs.declared.pools.expr.SymbolicExpr.TheVariants.{Leaf
 module _ {A F : Type 0} (l : Leaves A F) where
   -- the degree that a fitting node states is that of its term
   stated-is : (ns : List (SymbolicExpr A)) (n : SymbolicExpr A) → NodeFits l ns n → degree_by cached_weight (node_term l.term (λ i. term_of l.term (tree_of ns i)) n) ≡ stated_degree l n
-  stated-is ns (Leaf a) h = refl
-  stated-is ns (Add x y d) h = sym h.2
-  stated-is ns (Sub x y d) h = sym h.2
-  stated-is ns (Neg x d) h = sym h.1
-  stated-is ns (Mul x y d) h = sym h.2
+  stated-is ns n h = sym (h.degree ∙ node_degree-is cached_weight l.term _ n)
 
   -- A node that fits the nodes before index i, stated for all nodes.
   module _ (ns : List (SymbolicExpr A)) (i : ℕ) (within : i ≤ length ns) where
@@ -32,25 +29,18 @@ module _ {A F : Type 0} (l : Leaves A F) where
     degree-here x h = ap (λ t. degree_by cached_weight (term_of l.term t)) (tree_of-before ns i x (below x h) within)
 
     unfold-here : (n : SymbolicExpr A) → NodeFits l (take i ns) n → unfold_node (tree_of (take i ns)) n ≡ unfold_node (tree_of ns) n
-    unfold-here (Leaf a) h = refl
-    unfold-here (Add x y d) h = cc (tree_of-before ns i x (below x h.0) within, tree_of-before ns i y (below y h.1) within)
-    unfold-here (Sub x y d) h = cc (tree_of-before ns i x (below x h.0) within, tree_of-before ns i y (below y h.1) within)
-    unfold-here (Neg x d) h = cc (tree_of-before ns i x (below x h.0) within)
-    unfold-here (Mul x y d) h = cc (tree_of-before ns i x (below x h.0) within, tree_of-before ns i y (below y h.1) within)
+    unfold-here n h = unfold_node-same _ _ n (λ k d b. tree_of-before ns i _ (below _ (h.below k d b)) within)
 
     fits-here : (n : SymbolicExpr A) → NodeFits l (take i ns) n → NodeFits l ns n
-    fits-here (Leaf a) h = h
-    fits-here (Add x y d) h = (here x h.0, here y h.1, h.2 ∙ ap₂ max (degree-here x h.0) (degree-here y h.1))
-    fits-here (Sub x y d) h = (here x h.0, here y h.1, h.2 ∙ ap₂ max (degree-here x h.0) (degree-here y h.1))
-    fits-here (Neg x d) h = (here x h.0, h.1 ∙ degree-here x h.0)
-    fits-here (Mul x y d) h = (here x h.0, here y h.1, h.2 ∙ ap₂ (λ a b. a + b) (degree-here x h.0) (degree-here y h.1))
+    fits-here n h = record {
+      valid = h.valid;
+      below = λ k d b. here _ (h.below k d b);
+      degree = h.degree ∙ node_degree-same _ _ _ _ n (valid_node-weaker l.valid _ (λ a v. refl) n h.valid) (λ k d b. degree-here _ (h.below k d b));
+      in_range = h.in_range;
+    }
 
     operands-below : (n : SymbolicExpr A) → NodeFits l (take i ns) n → OperandsBelow i n
-    operands-below (Leaf a) h = tt
-    operands-below (Add x y d) h = (below x h.0, below y h.1)
-    operands-below (Sub x y d) h = (below x h.0, below y h.1)
-    operands-below (Neg x d) h = below x h.0
-    operands-below (Mul x y d) h = (below x h.0, below y h.1)
+    operands-below n h = λ k d b. below _ (h.below k d b)
 
   -- the node at index i is the node of number i
   pub node_at-is : (ns : List (SymbolicExpr A)) → WellFormed l ns → (i : ℕ) (n : SymbolicExpr A) → slice_get ns i ≡ Some n → IsNode l ns i n
@@ -71,6 +61,10 @@ module _ {A F : Type 0} (l : Leaves A F) where
   -- each number has a node
   pub found : (ns : List (SymbolicExpr A)) → WellFormed l ns → (i : ℕ) → i < length ns → (n : SymbolicExpr A) × IsNode l ns i n
   found ns wf i b = let f = element_at ns i b in (f.0, node_at-is ns wf i f.0 f.1)
+
+  -- each number has a degree within `usize`
+  pub cached_in_range : (ns : List (SymbolicExpr A)) → WellFormed l ns → (i : ℕ) → i < length ns → cached_degree l ns i < 2 ^ 64
+  cached_in_range ns wf i b = let f = found ns wf i b in subst (λ d. d < 2 ^ 64) (sym f.1.degree) f.1.fits.in_range
 
   -- ---- The tree of a node over given trees
 
@@ -94,28 +88,28 @@ module _ {A F : Type 0} (l : Leaves A F) where
 
     unfold-there : (n : SymbolicExpr A) → NodeFits l ns n → unfold_node (tree_of ns) n ≡ Some (node_tree there_at n)
     unfold-there (Leaf a) h = refl
-    unfold-there (Add x y d) h = both-there add_tree x y h.0 h.1
-    unfold-there (Sub x y d) h = both-there sub_tree x y h.0 h.1
-    unfold-there (Neg x d) h = ap (option_map neg_tree) (is_there x h.0)
-    unfold-there (Mul x y d) h = both-there mul_tree x y h.0 h.1
+    unfold-there (Add x y d) h = both-there add_tree x y (h.below 0 x (omega arith)) (h.below 1 y (omega arith))
+    unfold-there (Sub x y d) h = both-there sub_tree x y (h.below 0 x (omega arith)) (h.below 1 y (omega arith))
+    unfold-there (Neg x d) h = ap (option_map neg_tree) (is_there x (h.below 0 x (omega arith)))
+    unfold-there (Mul x y d) h = both-there mul_tree x y (h.below 0 x (omega arith)) (h.below 1 y (omega arith))
 
   Some-is : {t u : Tree A} → Some t ≡ Some u → t ≡ u
   Some-is e = cc
 
-  -- fitting nodes with equal trees are equal, if the trees of the first one's operands have one number each
-  same_node : (ns : List (SymbolicExpr A)) (i : ℕ) (at : ℕ → Tree A)
-      → ((x y : ℕ) → x < i → x < length ns → y < length ns → at x ≡ at y → x ≡ y) → (n m : SymbolicExpr A) → OperandsBelow i n
-      → NodeFits l ns n → NodeFits l ns m → node_tree at n ≡ node_tree at m → n ≡ m
-  same_node ns i at one (Leaf a) (Leaf b) low h k e = cc
-  same_node ns i at one (Add x y d) (Add u v f) low h k e =
-      let p : x ≡ u = one x u low.0 h.0 k.0 (cc) in let q : y ≡ v = one y v low.1 h.1 k.1 (cc) in cc (h.2, k.2)
-  same_node ns i at one (Sub x y d) (Sub u v f) low h k e =
-      let p : x ≡ u = one x u low.0 h.0 k.0 (cc) in let q : y ≡ v = one y v low.1 h.1 k.1 (cc) in cc (h.2, k.2)
-  same_node ns i at one (Neg x d) (Neg u f) low h k e =
-      let p : x ≡ u = one x u low h.0 k.0 (cc) in cc (h.1, k.1)
-  same_node ns i at one (Mul x y d) (Mul u v f) low h k e =
-      let p : x ≡ u = one x u low.0 h.0 k.0 (cc) in let q : y ≡ v = one y v low.1 h.1 k.1 (cc) in cc (h.2, k.2)
-  same_node ns i at one _ _ low h k e = cc
+  -- Fitting nodes with equal trees are equal, if the trees of the first one's operands have one number each.
+  module _ (ns : List (SymbolicExpr A)) (i : ℕ) (at : ℕ → Tree A) (one : (x y : ℕ) → x < i → x < length ns → y < length ns → at x ≡ at y → x ≡ y) where
+    same_two : (x y u v : ℕ) → All (λ z. z < i) (x ∷ y ∷ []) → All (λ z. z < length ns) (x ∷ y ∷ []) → All (λ z. z < length ns) (u ∷ v ∷ []) → at x ≡ at u → at y ≡ at v → (x ≡ u) × (y ≡ v)
+    same_two x y u v low b c e f =
+        (one x u (low 0 x (omega arith)) (b 0 x (omega arith)) (c 0 u (omega arith)) e, one y v (low 1 y (omega arith)) (b 1 y (omega arith)) (c 1 v (omega arith)) f)
+
+    same_node : (n m : SymbolicExpr A) → OperandsBelow i n → NodeFits l ns n → NodeFits l ns m → node_tree at n ≡ node_tree at m → n ≡ m
+    same_node (Leaf a) (Leaf b) low h k e = cc
+    same_node (Add x y d) (Add u v f) low h k e = let s = same_two x y u v low h.below k.below (cc) (cc) in cc (s.0, s.1, h.degree, k.degree)
+    same_node (Sub x y d) (Sub u v f) low h k e = let s = same_two x y u v low h.below k.below (cc) (cc) in cc (s.0, s.1, h.degree, k.degree)
+    same_node (Neg x d) (Neg u f) low h k e =
+        let p : x ≡ u = one x u (low 0 x (omega arith)) (h.below 0 x (omega arith)) (k.below 0 u (omega arith)) (cc) in cc (h.degree, k.degree)
+    same_node (Mul x y d) (Mul u v f) low h k e = let s = same_two x y u v low h.below k.below (cc) (cc) in cc (s.0, s.1, h.degree, k.degree)
+    same_node _ _ low h k e = cc
 
   module _ (ns : List (SymbolicExpr A)) (wf : WellFormed l ns) where
     shared_below : (k i j : ℕ) → i < k → i < length ns → j < length ns → tree_of ns i ≡ tree_of ns j → i ≡ j

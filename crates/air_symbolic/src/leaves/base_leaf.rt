@@ -18,6 +18,34 @@ pub enum BaseLeaf<F> {
     Constant(F),
 }
 
+impl<F: Field> BaseLeaf<F> {
+    ghost use Rattle.std.specs.Prelude.{◌≡◌};
+    ghost use Rattle.air_field.specs.Degree.{degree_by, transition_weight, trace_weight};
+    ghost use Rattle.air_symbolic.specs.BaseLeaves.{base_term};
+
+    // The cached degree, with this weight for the transition selector.
+    fn weighted_degree(&self, weight: usize) -> usize
+        ensures { result ≡ degree_by (transition_weight weight) (base_term self.now) }
+    {
+        match self {
+            BaseLeaf::IsTransition => weight,
+            _ => self.degree_multiple(&()),
+        }
+    }
+
+    // The degree of the leaf's polynomial.
+    fn degree_over_rows(&self, trace_len: usize, periods: &[usize]) -> usize
+        ensures { result ≡ degree_by (trace_weight trace_len periods.now) (base_term self.now) }
+    {
+        match self {
+            BaseLeaf::Variable(v) => v.poly_degree(trace_len, periods),
+            BaseLeaf::IsFirstRow | BaseLeaf::IsLastRow => trace_len.saturating_sub(1),
+            BaseLeaf::IsTransition => 1,
+            BaseLeaf::Constant(_) => 0,
+        }
+    }
+}
+
 impl<F: Field> SymLeaf for BaseLeaf<F> {
     type F = F;
 
@@ -59,12 +87,9 @@ impl<F: Field> SymLeaf for BaseLeaf<F> {
     fn degree_multiple_with_transition(
         &self,
         weight: usize,
-        base: &(),
+        _under: &(),
     ) -> Result<usize, RingError> {
-        match self {
-            BaseLeaf::IsTransition => Ok(weight),
-            _ => Ok(self.degree_multiple(base)),
-        }
+        Ok(self.weighted_degree(weight))
     }
 
     fn poly_degree(
@@ -73,13 +98,7 @@ impl<F: Field> SymLeaf for BaseLeaf<F> {
         periods: &[usize],
         _under: &(),
     ) -> Result<usize, RingError> {
-        match self {
-            BaseLeaf::Variable(v) => Ok(v.poly_degree(trace_len, periods)),
-            BaseLeaf::IsFirstRow => Ok(trace_len.saturating_sub(1)),
-            BaseLeaf::IsLastRow => Ok(trace_len.saturating_sub(1)),
-            BaseLeaf::IsTransition => Ok(1),
-            BaseLeaf::Constant(_) => Ok(0),
-        }
+        Ok(self.degree_over_rows(trace_len, periods))
     }
 
     fn degrees_of_base(
@@ -93,17 +112,13 @@ impl<F: Field> SymLeaf for BaseLeaf<F> {
         })
     }
 
-    fn degree_in(
-        &self,
-        weight: LeafWeight<'_>,
-        base: &(),
-        _table: &[Result<usize, RingError>],
-    ) -> Result<usize, RingError> {
-        match weight {
-            LeafWeight::Cached => Ok(self.degree_multiple(base)),
-            LeafWeight::Transition(weight) => self.degree_multiple_with_transition(weight, base),
-            LeafWeight::Trace { trace_len, periods } => self.poly_degree(trace_len, periods, base),
-        }
+    fn degree_in(&self, weight: LeafWeight<'_>, base: &(), _table: &[u128]) -> u128 {
+        let degree = match weight {
+            LeafWeight::Cached => self.degree_multiple(base),
+            LeafWeight::Transition(weight) => self.weighted_degree(weight),
+            LeafWeight::Trace { trace_len, periods } => self.degree_over_rows(trace_len, periods),
+        };
+        degree as u128
     }
 
     fn from_const(c: F, _under: &mut ()) -> Result<Self, RingError> {

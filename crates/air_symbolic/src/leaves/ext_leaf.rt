@@ -30,7 +30,7 @@ impl<F: Field, EF: ExtensionField<F>> SymLeaf for ExtLeaf<F, EF> {
     ghost use Rattle.air_symbolic.specs.Weights.{leaf_weight};
     ghost use Rattle.air_symbolic.specs.Pools.{term_at, size};
     ghost use Rattle.air_symbolic.specs.BaseLeaves.{base_reads};
-    ghost use Rattle.air_symbolic.specs.DegreeTables.{AnswersDegrees};
+    ghost use Rattle.air_symbolic.specs.DegreeTables.{AreDegrees};
     ghost use Rattle.air_symbolic.specs.ExtLeaves.{no_base_nodes, ext_reads, ext_grows};
     ghost use Rattle.air_symbolic.specs.laws.ExtLeaves.{ext_leaf_laws};
 
@@ -41,7 +41,7 @@ impl<F: Field, EF: ExtensionField<F>> SymLeaf for ExtLeaf<F, EF> {
     ghost base_length = { λ u. size u };
 
     ghost has_degrees = { λ u w table.
-        AnswersDegrees (λ i. degree_by (leaf_weight w) (term_at base_reads u i)) (size u) table };
+        AreDegrees (λ i. degree_by (leaf_weight w) (term_at base_reads u i)) (size u) table };
 
     ghost empty_base = { no_base_nodes };
 
@@ -101,16 +101,16 @@ impl<F: Field, EF: ExtensionField<F>> SymLeaf for ExtLeaf<F, EF> {
     fn degree_in(
         &self,
         weight: LeafWeight<'_>,
-        base: &ExprPool<BaseLeaf<F>>,
-        table: &[Result<usize, RingError>],
-    ) -> Result<usize, RingError> {
-        if let ExtLeaf::Base(id) = self {
-            return degree_at(table, *id);
-        }
-        match weight {
-            LeafWeight::Cached => Ok(self.degree_multiple(base)),
-            LeafWeight::Transition(weight) => self.degree_multiple_with_transition(weight, base),
-            LeafWeight::Trace { trace_len, periods } => self.poly_degree(trace_len, periods, base),
+        _base: &ExprPool<BaseLeaf<F>>,
+        table: &[u128],
+    ) -> u128 {
+        match self {
+            ExtLeaf::Base(id) => degree_at(table, *id),
+            ExtLeaf::ExtVariable(v) => match weight {
+                LeafWeight::Trace { trace_len, .. } => v.poly_degree(trace_len) as u128,
+                _ => v.degree_multiple() as u128,
+            },
+            ExtLeaf::ExtConstant(_) => 0,
         }
     }
 

@@ -1,11 +1,11 @@
 //! The interface of leaves.
-ghost use Rattle.std.specs.Prelude.{◌≡◌, ℕ, ◌≤◌, ◌<◌, ◌^◌, List, Result, IfOk, IfErr, ◌↔◌, true};
+ghost use Rattle.std.specs.Prelude.{◌≡◌, ℕ, ◌<◌, ◌^◌, List, IfOk, IfErr, ◌↔◌, true};
 ghost use Rattle.air_field.specs.Degree.{degree_by, cached_weight, transition_weight, trace_weight};
+ghost use Rattle.air_symbolic.specs.DegreeTables.{capped};
 ghost use Rattle.air_symbolic.specs.Leaves.{Leaves, LeafLaws, IsConstLeaf};
 ghost use Rattle.air_symbolic.specs.PoolRefusals.{AnswersDegree};
 ghost use Rattle.air_symbolic.specs.Weights.{leaf_weight};
 ghost use Rattle.air_symbolic.specs.declared.pools.weight.LeafWeight.{LeafWeight};
-ghost use Rattle.air_field.specs.declared.errors.RingError.{RingError};
 
 use crate::pools::weight::{DegreeTable, LeafWeight};
 use air_field::{Field, RingError};
@@ -30,7 +30,7 @@ pub trait SymLeaf: Copy + Eq + Ord + Debug {
     ghost base_length: { Self.Base → ℕ };
 
     /// The list holds, for each number of the base, its degree by this weight.
-    ghost has_degrees: { Self.Base → LeafWeight → List (Result ℕ RingError) → Type 0 };
+    ghost has_degrees: { Self.Base → LeafWeight → List ℕ → Type 0 };
 
     /// The base of a new pool.
     ghost empty_base: { Self.Base };
@@ -84,19 +84,13 @@ pub trait SymLeaf: Copy + Eq + Ord + Debug {
         ensures few { IfOk result (λ t. t.turns < 2 ^ 64) }
         ensures refused { IfErr result (λ e. e ≡ RingError.Memory) };
 
-    /// The degree by a weight. If the leaf names something in the base, the degree is read from `table`, which must
-    /// hold the base's degrees by the same weight. Fails with `DegreeOverflow` only if the degree exceeds `usize`, or
-    /// with `Memory`.
-    fn degree_in(
-        &self,
-        weight: LeafWeight<'_>,
-        base: &Self::Base,
-        table: &[Result<usize, RingError>],
-    ) -> Result<usize, RingError>
+    /// The degree by a weight, or 2^128 - 1 if it is greater than that. If the leaf names something in the base, the
+    /// degree is read from `table`, which must hold the base's degrees by the same weight.
+    fn degree_in(&self, weight: LeafWeight<'_>, base: &Self::Base, table: &[u128]) -> u128
         requires valid { (reads base.now).valid self.now }
         requires known { has_degrees base.now weight table.now }
-        ensures { AnswersDegree
-            (degree_by (leaf_weight weight.entry) ((reads base.now).term self.now)) result };
+        ensures { result ≡ capped
+            (degree_by (leaf_weight weight.entry) ((reads base.now).term self.now)) };
 
     /// The leaf of a constant.
     fn from_const(c: Self::F, base: &mut Self::Base) -> Result<Self, RingError>

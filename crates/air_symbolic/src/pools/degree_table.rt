@@ -1,11 +1,11 @@
 //! The degrees of a pool's nodes by number, each computed once.
-ghost use Rattle.std.specs.Prelude.{◌≡◌, ℕ, ◌<◌, ◌≤◌, ◌+◌, ◌^◌, max, length, OnOk, IfOk, IfErr};
+ghost use Rattle.std.specs.Prelude.{◌≡◌, ℕ, ◌<◌, ◌≤◌, ◌+◌, ◌^◌, length, slice_index_or, OnOk, IfOk, IfErr};
 ghost use Rattle.air_field.specs.Degree.{degree_by};
 ghost use Rattle.air_symbolic.specs.Weights.{leaf_weight};
-ghost use Rattle.air_symbolic.specs.Nodes.{OperandsBelow};
+ghost use Rattle.air_symbolic.specs.Nodes.{OperandsBelow, IsValidNode, node_degree};
 ghost use Rattle.air_symbolic.specs.Pools.{FitsBase, term_at, size};
-ghost use Rattle.air_symbolic.specs.PoolRefusals.{AnswersDegree};
-ghost use Rattle.air_symbolic.specs.DegreeTables.{answer_at, AnswersDegrees, node_degree, IsValidNode};
+ghost use Rattle.air_symbolic.specs.PoolRefusals.{IsChecked};
+ghost use Rattle.air_symbolic.specs.DegreeTables.{capped, AreDegrees};
 
 use crate::leaves::sym_leaf::SymLeaf;
 use crate::pools::expr::{ExprId, SymbolicExpr};
@@ -14,67 +14,45 @@ use crate::pools::weight::{DegreeTable, LeafWeight};
 use air_field::RingError;
 
 /// The degree of a number.
-pub(crate) fn degree_at<A: Copy>(
-    table: &[Result<usize, RingError>],
-    id: ExprId<A>,
-) -> Result<usize, RingError>
+pub(crate) fn degree_at<A: Copy>(table: &[u128], id: ExprId<A>) -> u128
     requires { id < length table.now }
-    ensures { result ≡ answer_at table.now id }
+    ensures { result ≡ slice_index_or table.now id 0 }
 {
     table[id.number()]
 }
 
-// The degree of a sum or a difference.
-fn greater_degree(
-    left: Result<usize, RingError>,
-    right: Result<usize, RingError>,
-) -> Result<usize, RingError>
-    ensures { (a b : ℕ) → AnswersDegree a left → AnswersDegree b right →
-        AnswersDegree (max a b) result }
+/// A degree as `usize`, or `DegreeOverflow` if it exceeds that.
+pub fn checked_degree(degree: u128) -> Result<usize, RingError>
+    ensures { IsChecked degree result }
 {
-    let left = left?;
-    match right {
-        Ok(right) => Ok(left.max(right)),
-        Err(e) => Err(e),
-    }
-}
-
-// The degree of a product.
-fn added_degree(
-    left: Result<usize, RingError>,
-    right: Result<usize, RingError>,
-) -> Result<usize, RingError>
-    ensures { (a b : ℕ) → AnswersDegree a left → AnswersDegree b right →
-        AnswersDegree (a + b) result }
-{
-    let left = left?;
-    match right {
-        Ok(right) => left.checked_add(right).ok_or(RingError::DegreeOverflow),
-        Err(e) => Err(e),
+    match usize::try_from(degree) {
+        Ok(degree) => Ok(degree),
+        Err(_) => Err(RingError::DegreeOverflow),
     }
 }
 
 // The degree of a node, computed from the degrees of its operands.
 fn degree_of_node<A: SymLeaf>(
-    node: SymbolicExpr<A>,
+    node: &SymbolicExpr<A>,
     weight: LeafWeight<'_>,
     base: &A::Base,
-    base_degrees: &[Result<usize, RingError>],
-    table: &[Result<usize, RingError>],
-) -> Result<usize, RingError>
-    requires valid { IsValidNode (A.reads base.now).valid node }
+    base_degrees: &[u128],
+    table: &[u128],
+) -> u128
+    requires valid { IsValidNode (A.reads base.now).valid node.now }
     requires base { A.has_degrees base.now weight base_degrees.now }
-    requires below { OperandsBelow (length table.now) node }
-    ensures { (degree : ℕ → ℕ) → AnswersDegrees degree (length table.now) table.now →
-        AnswersDegree (node_degree (λ a. degree_by (leaf_weight weight.entry)
-        ((A.reads base.now).term a)) degree node) result }
+    requires below { OperandsBelow (length table.now) node.now }
+    ensures { (degree : ℕ → ℕ) → AreDegrees degree (length table.now) table.now →
+        result ≡ capped (node_degree (λ a. degree_by (leaf_weight weight.entry)
+        ((A.reads base.now).term a)) degree node.now) }
 {
-    match node {
+    match *node {
         SymbolicExpr::Leaf(a) => a.degree_in(weight, base, base_degrees),
-        SymbolicExpr::Add { x, y, .. } => greater_degree(degree_at(table, x), degree_at(table, y)),
-        SymbolicExpr::Sub { x, y, .. } => greater_degree(degree_at(table, x), degree_at(table, y)),
+        SymbolicExpr::Add { x, y, .. } | SymbolicExpr::Sub { x, y, .. } => {
+            degree_at(table, x).max(degree_at(table, y))
+        }
         SymbolicExpr::Neg { x, .. } => degree_at(table, x),
-        SymbolicExpr::Mul { x, y, .. } => added_degree(degree_at(table, x), degree_at(table, y)),
+        SymbolicExpr::Mul { x, y, .. } => degree_at(table, x).saturating_add(degree_at(table, y)),
     }
 }
 
@@ -90,18 +68,18 @@ impl<A: SymLeaf> ExprPool<A> {
         requires owed { FitsBase A.reads self.now }
         requires here { id < size self.now }
         requires base { A.has_degrees self.now.base weight base.now.degrees.items }
-        requires operands { AnswersDegrees
+        requires operands { AreDegrees
             (λ i. degree_by (leaf_weight weight) (term_at A.reads self.now i))
             id table.old.degrees.items }
         requires room { table.old.turns + 1 < 2 ^ 128 }
-        ensures degrees { OnOk result (AnswersDegrees
+        ensures degrees { OnOk result (AreDegrees
             (λ i. degree_by (leaf_weight weight.entry) (term_at A.reads self.now i))
             (id + 1) table.new.degrees.items) }
         ensures counted { table.new.turns ≡ table.old.turns + 1 }
         ensures refused { IfErr result (λ e. e ≡ RingError.Memory) }
     {
         table.turns += 1;
-        let node = *self.node(id);
+        let node = self.node(id);
         let degree = degree_of_node(node, weight, self.base(), &base.degrees, &table.degrees);
         table.degrees.push(degree)?;
         Ok(())
@@ -118,7 +96,7 @@ impl<A: SymLeaf> ExprPool<A> {
         requires owed { FitsBase A.reads self.now }
         requires here { count ≤ size self.now }
         requires base { A.has_degrees self.now.base weight base.now.degrees.items }
-        ensures degrees { IfOk result (λ t. AnswersDegrees
+        ensures degrees { IfOk result (λ t. AreDegrees
             (λ i. degree_by (leaf_weight weight.entry) (term_at A.reads self.now i))
             count t.degrees.items) }
         ensures turns { IfOk result (λ t. t.turns ≡ count) }
@@ -142,7 +120,7 @@ impl<A: SymLeaf> ExprPool<A> {
     ) -> Result<DegreeTable, RingError>
         requires owed { FitsBase A.reads self.now }
         requires here { count ≤ size self.now }
-        ensures degrees { IfOk result (λ t. AnswersDegrees
+        ensures degrees { IfOk result (λ t. AreDegrees
             (λ i. degree_by (leaf_weight weight.entry) (term_at A.reads self.now i))
             count t.degrees.items) }
         ensures turns { IfOk result (λ t. t.turns ≡ count + A.base_length self.now.base) }

@@ -4,10 +4,10 @@ ghost use Rattle.air_field.specs.Degree.{degree_by, cached_weight, transition_we
 ghost use Rattle.air_symbolic.specs.Weights.{leaf_weight, turns_by, SomeOverflows};
 ghost use Rattle.air_symbolic.specs.Pools.{FitsBase, term_at, size};
 ghost use Rattle.air_symbolic.specs.PoolRefusals.{AnswersDegree};
-ghost use Rattle.air_symbolic.specs.DegreeTables.{AnswersDegrees};
+ghost use Rattle.air_symbolic.specs.DegreeTables.{AreDegrees};
 
 use crate::leaves::sym_leaf::SymLeaf;
-use crate::pools::degree_table::degree_at;
+use crate::pools::degree_table::{checked_degree, degree_at};
 use crate::pools::expr::ExprId;
 use crate::pools::pool::ExprPool;
 use crate::pools::weight::{DegreeTable, Degrees, LeafWeight};
@@ -25,7 +25,7 @@ impl<A: SymLeaf> ExprPool<A> {
         let last = id.number();
         prove!(last < count);
         let table = self.degree_table(last + 1, weight)?;
-        degree_at(&table.degrees, id)
+        checked_degree(degree_at(&table.degrees, id))
     }
 
     // The degrees stated by the roots' nodes.
@@ -44,51 +44,26 @@ impl<A: SymLeaf> ExprPool<A> {
         Ok(Degrees { values, turns: 0 })
     }
 
-    /// The roots' degrees, read from a table of all numbers.
-    pub(crate) fn degrees_from(
-        &self,
-        table: &DegreeTable,
-        roots: &[ExprId<A>],
-    ) -> Result<Degrees, RingError>
+    // The roots' degrees, read from a table of all numbers.
+    fn degrees_from(&self, table: &DegreeTable, roots: &[ExprId<A>]) -> Result<Degrees, RingError>
         requires all_in { All (λ x. x < length table.now.degrees.items) roots.now }
-        ensures values { IfOk result (λ d. (degree : ℕ → ℕ) → AnswersDegrees degree
+        ensures values { IfOk result (λ d. (degree : ℕ → ℕ) → AreDegrees degree
             (length table.now.degrees.items) table.now.degrees.items →
             d.values.items ≡ map degree roots.now) }
         ensures turns { IfOk result (λ d. d.turns ≡ table.now.turns) }
         ensures refused { IfErr result (λ e. e ≢ RingError.Memory → (degree : ℕ → ℕ) →
-            AnswersDegrees degree (length table.now.degrees.items) table.now.degrees.items →
+            AreDegrees degree (length table.now.degrees.items) table.now.degrees.items →
             SomeOverflows (map degree roots.now)) }
     {
         let mut values = Vec::with_capacity(*self.nodes.allocator(), roots.len())?;
         for root in roots {
-            let degree = degree_at(&table.degrees, *root)?;
+            let degree = checked_degree(degree_at(&table.degrees, *root))?;
             values.push(degree)?;
         }
         Ok(Degrees {
             values,
             turns: table.turns,
         })
-    }
-
-    /// The roots' degrees by the leaves' weights, from a table built over the base's table. Counts only this pool's
-    /// turns.
-    pub(crate) fn degrees_over(
-        &self,
-        roots: &[ExprId<A>],
-        weight: LeafWeight<'_>,
-        base: &DegreeTable,
-    ) -> Result<Degrees, RingError>
-        requires owed { FitsBase A.reads self.now }
-        requires all_in { All (λ x. x < size self.now) roots.now }
-        requires base { A.has_degrees self.now.base weight base.now.degrees.items }
-        ensures values { IfOk result (λ d. d.values.items ≡
-            map (λ x. degree_by (leaf_weight weight.entry) (term_at A.reads self.now x)) roots.now) }
-        ensures turns { IfOk result (λ d. d.turns ≡ size self.now) }
-        ensures refused { IfErr result (λ e. e ≢ RingError.Memory → SomeOverflows
-            (map (λ x. degree_by (leaf_weight weight.entry) (term_at A.reads self.now x)) roots.now)) }
-    {
-        let table = self.table_over(self.len(), weight, base)?;
-        self.degrees_from(&table, roots)
     }
 
     // The roots' degrees by the leaves' weights, read from one table.

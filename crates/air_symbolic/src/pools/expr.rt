@@ -75,3 +75,48 @@ impl<A: Copy> Clone for SymbolicExpr<A> {
         Ok(*self)
     }
 }
+
+/// The operands of a node, in order: at most two numbers.
+#[derive(Drop)]
+pub struct Operands<A> {
+    ids: [ExprId<A>; 2],
+    count: usize,
+}
+
+impl<A> Model for Operands<A> {
+    ghost use Rattle.std.specs.Prelude.{ℕ, ◌≤◌, List, take};
+
+    ghost Value = { List ℕ };
+
+    ghost view = { λ o. take o.count o.ids };
+
+    ghost invariant = { λ o. o.count ≤ 2 };
+}
+
+impl<A: Copy> Operands<A> {
+    /// The operands' numbers.
+    pub fn as_slice(&self) -> &[ExprId<A>]
+        ensures { result.now ≡ self.now }
+    {
+        &self.ids[..self.count]
+    }
+}
+
+impl<A: Copy> SymbolicExpr<A> {
+    ghost use Rattle.air_symbolic.specs.Nodes.{operands};
+
+    /// The node's operands; a leaf has none.
+    pub fn operands(&self) -> Operands<A>
+        ensures { result ≡ operands self.now }
+    {
+        let none = ExprId::new(0);
+        let (ids, count) = match *self {
+            SymbolicExpr::Leaf(_) => ([none, none], 0),
+            SymbolicExpr::Neg { x, .. } => ([x, none], 1),
+            SymbolicExpr::Add { x, y, .. }
+            | SymbolicExpr::Sub { x, y, .. }
+            | SymbolicExpr::Mul { x, y, .. } => ([x, y], 2),
+        };
+        Operands { ids, count }
+    }
+}

@@ -14,25 +14,15 @@ use crate::pools::node_table::NodeTable;
 use crate::pools::pool::ExprPool;
 use air_field::RingError;
 
-// Whether an operand is the newest of `count` nodes.
-fn is_newest<A: Copy>(x: ExprId<A>, count: usize) -> bool
-    ensures { result ≡ true → count ≡ x + 1 }
-{
-    count.checked_sub(1) == Some(x.number())
-}
-
-// Whether a node has the newest number as an operand. Then the pool can't have the node yet, since operands are older
-// than their node, and the search can be skipped.
+// Whether a node has the newest of `count` numbers as an operand. Then the pool can't have the node yet, since operands
+// are older than their node, and the search can be skipped.
 fn names_newest<A: SymLeaf>(node: &SymbolicExpr<A>, count: usize) -> bool
     ensures { result ≡ true → (i : ℕ) → i < count → OperandsBelow i node.now → ⊥ }
 {
-    match *node {
-        SymbolicExpr::Leaf(_) => false,
-        SymbolicExpr::Add { x, y, .. } => is_newest(x, count) || is_newest(y, count),
-        SymbolicExpr::Sub { x, y, .. } => is_newest(x, count) || is_newest(y, count),
-        SymbolicExpr::Neg { x, .. } => is_newest(x, count),
-        SymbolicExpr::Mul { x, y, .. } => is_newest(x, count) || is_newest(y, count),
-    }
+    let Some(newest) = count.checked_sub(1) else {
+        return false;
+    };
+    node.operands().as_slice().contains(&ExprId::new(newest))
 }
 
 // The number of an equal node, whatever degree it states. The tables aren't searched if an operand is the newest

@@ -3,7 +3,7 @@ ghost use Rattle.std.specs.Prelude.{◌≡◌, ◌≢◌, ◌<◌, [], ◌∷◌
 ghost use Rattle.std.specs.Option.{IfSome};
 ghost use Rattle.air_symbolic.specs.ExtLeaves.{ext_reads, ext_grows};
 ghost use Rattle.air_symbolic.specs.ExtTrees.{HasExtOnly, lower, IsLowered, HasTermOf};
-ghost use Rattle.air_symbolic.specs.Lowered.{IsMarkedExtOnly, IsLoweredIn, IsLoweredNode, CanLower};
+ghost use Rattle.air_symbolic.specs.Lowered.{IsMarkedExtOnly, IsLoweredIn, IsCounterpart, CanLower};
 ghost use Rattle.air_symbolic.specs.Pools.{IsPool, FitsBase, Grown, HasTree, tree_at, size};
 ghost use Rattle.air_symbolic.specs.Reach.{Reached};
 
@@ -13,6 +13,14 @@ use crate::pools::expr::{ExprId, SymbolicExpr};
 use crate::pools::pool::ExprPool;
 use crate::pools::reach::reached_nodes;
 use air_field::{ExtensionField, Field, RingError};
+
+// What a node of an extension pool is in the base pool.
+pub(crate) enum Counterpart<F> {
+    // The expression that a Base leaf names.
+    Number(ExprId<BaseLeaf<F>>),
+    // A node, which the base pool may lack.
+    Node(SymbolicExpr<BaseLeaf<F>>),
+}
 
 // The base number in the table at a number.
 fn lowered_at<F: Field, EF: ExtensionField<F>>(
@@ -65,27 +73,24 @@ impl<F: Field, EF: ExtensionField<F>> ExprPool<ExtLeaf<F, EF>> {
         false
     }
 
-    // The counterpart of a node in the base pool: a Base leaf names one already (`Err`); any other node is made from
-    // its operands' counterparts, with the same degree (`Ok`).
+    // The counterpart of a node in the base pool, made from its operands' counterparts, with the same degree.
     fn over_base(
         &self,
         id: ExprId<ExtLeaf<F, EF>>,
         table: &[Option<ExprId<BaseLeaf<F>>>],
-    ) -> Result<SymbolicExpr<BaseLeaf<F>>, ExprId<BaseLeaf<F>>>
+    ) -> Counterpart<F>
         requires pool { IsPool (ext_reads EF.basis) self.now }
         requires ready { CanLower self.now table.now id }
-        ensures node { IfOk result (IsLoweredNode self.now id) }
-        ensures there { IfErr result (HasTree self.now.base
-            (lower self.now.base (tree_at self.now id))) }
+        ensures { IsCounterpart self.now id result }
     {
         match *self.node(id) {
-            SymbolicExpr::Leaf(ExtLeaf::Base(b)) => Err(b),
+            SymbolicExpr::Leaf(ExtLeaf::Base(b)) => Counterpart::Number(b),
             SymbolicExpr::Leaf(_) => unreachable!(),
             SymbolicExpr::Add {
                 x,
                 y,
                 degree_multiple,
-            } => Ok(SymbolicExpr::Add {
+            } => Counterpart::Node(SymbolicExpr::Add {
                 x: lowered_at(table, x),
                 y: lowered_at(table, y),
                 degree_multiple,
@@ -94,12 +99,12 @@ impl<F: Field, EF: ExtensionField<F>> ExprPool<ExtLeaf<F, EF>> {
                 x,
                 y,
                 degree_multiple,
-            } => Ok(SymbolicExpr::Sub {
+            } => Counterpart::Node(SymbolicExpr::Sub {
                 x: lowered_at(table, x),
                 y: lowered_at(table, y),
                 degree_multiple,
             }),
-            SymbolicExpr::Neg { x, degree_multiple } => Ok(SymbolicExpr::Neg {
+            SymbolicExpr::Neg { x, degree_multiple } => Counterpart::Node(SymbolicExpr::Neg {
                 x: lowered_at(table, x),
                 degree_multiple,
             }),
@@ -107,31 +112,11 @@ impl<F: Field, EF: ExtensionField<F>> ExprPool<ExtLeaf<F, EF>> {
                 x,
                 y,
                 degree_multiple,
-            } => Ok(SymbolicExpr::Mul {
+            } => Counterpart::Node(SymbolicExpr::Mul {
                 x: lowered_at(table, x),
                 y: lowered_at(table, y),
                 degree_multiple,
             }),
-        }
-    }
-
-    // The base expression of a number, made from those of its operands.
-    fn lower_node(
-        &mut self,
-        id: ExprId<ExtLeaf<F, EF>>,
-        table: &[Option<ExprId<BaseLeaf<F>>>],
-    ) -> Result<ExprId<BaseLeaf<F>>, RingError>
-        requires pool { IsPool (ext_reads EF.basis) self.old }
-        requires ready { CanLower self.old table.now id }
-        ensures same_nodes { self.new.nodes ≡ self.old.nodes }
-        ensures grown { Grown ext_grows (ext_reads EF.basis) self.old self.new }
-        ensures made { IfOk result (HasTree self.new.base
-            (lower self.old.base (tree_at self.old id))) }
-        ensures refused { IfErr result (λ e. e ≡ RingError.Memory) }
-    {
-        match self.over_base(id, table) {
-            Ok(node) => self.base_mut().insert(node),
-            Err(b) => Ok(b),
         }
     }
 
@@ -148,18 +133,18 @@ impl<F: Field, EF: ExtensionField<F>> ExprPool<ExtLeaf<F, EF>> {
         ensures made { IfOk result (λ b. IfSome mark (λ i. IsLoweredIn self.old self.new i b)) }
         ensures refused { IfErr result (λ e. e ≡ RingError.Memory) }
     {
-        match mark {
-            Some(id) => {
-                let lowered = self.lower_node(id, table)?;
-                Ok(Some(lowered))
-            }
-            None => Ok(None),
+        let Some(id) = mark else {
+            return Ok(None);
+        };
+        match self.over_base(id, table) {
+            Counterpart::Number(number) => Ok(Some(number)),
+            Counterpart::Node(node) => Ok(Some(self.base_mut().insert(node)?)),
         }
     }
 
     // The base expression of a tree without extension-only leaves. The reached nodes are lowered in ascending order,
     // into a table that must be empty.
-    fn lower_into(
+    fn lower(
         &mut self,
         id: ExprId<ExtLeaf<F, EF>>,
         marks: &[Option<ExprId<ExtLeaf<F, EF>>>],
@@ -184,27 +169,6 @@ impl<F: Field, EF: ExtensionField<F>> ExprPool<ExtLeaf<F, EF>> {
         Ok(lowered_at(table, id))
     }
 
-    // `lower_into` with a new table.
-    fn lower(
-        &mut self,
-        id: ExprId<ExtLeaf<F, EF>>,
-        marks: &[Option<ExprId<ExtLeaf<F, EF>>>],
-    ) -> Result<ExprId<BaseLeaf<F>>, RingError>
-        requires pool { IsPool (ext_reads EF.basis) self.old }
-        requires here { id < size self.old }
-        requires marked { Reached (ext_reads EF.basis self.old.base)
-            self.old.nodes (id ∷ []) marks.now }
-        requires base_only { HasExtOnly (tree_at self.old id) → ⊥ }
-        ensures same_nodes { self.new.nodes ≡ self.old.nodes }
-        ensures grown { Grown ext_grows (ext_reads EF.basis) self.old self.new }
-        ensures made { IfOk result (HasTree self.new.base
-            (lower self.old.base (tree_at self.old id))) }
-        ensures refused { IfErr result (λ e. e ≡ RingError.Memory) }
-    {
-        let mut table = Vec::with_capacity(*self.nodes.allocator(), marks.len())?;
-        self.lower_into(id, marks, &mut table)
-    }
-
     /// The base expression with the same tree, not simplified, and so with the same term; `None` exactly if the tree
     /// has an extension-only leaf, and then the base pool is unchanged.
     pub fn to_base(
@@ -227,7 +191,8 @@ impl<F: Field, EF: ExtensionField<F>> ExprPool<ExtLeaf<F, EF>> {
         if self.has_ext_only(id, &marks) {
             return Ok(None);
         }
-        let base = self.lower(id, &marks)?;
+        let mut table = Vec::with_capacity(*self.nodes.allocator(), marks.len())?;
+        let base = self.lower(id, &marks, &mut table)?;
         Ok(Some(base))
     }
 }

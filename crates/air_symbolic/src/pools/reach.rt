@@ -1,5 +1,5 @@
 //! Which expressions of a pool are reached from some roots.
-ghost use Rattle.std.specs.Prelude.{◌≡◌, ◌⊎◌, ◌<◌, ℕ, length, slice_index_or, None, All, Contains, IfOk, IfErr};
+ghost use Rattle.std.specs.Prelude.{◌≡◌, ◌<◌, ℕ, length, slice_index_or, None, All, Contains, IfOk, IfErr};
 ghost use Rattle.air_symbolic.specs.Nodes.{OperandsBelow};
 ghost use Rattle.air_symbolic.specs.Pools.{FitsBase, size};
 ghost use Rattle.air_symbolic.specs.Reach.{EachOperand, IsOperand, Marked, MarkedMore, Reached};
@@ -32,33 +32,6 @@ fn mark<A: SymLeaf>(marks: &mut [Option<ExprId<A>>], x: ExprId<A>)
     marks[x.number()] = Some(x);
 }
 
-// Marks two expressions.
-fn mark_both<A: SymLeaf>(marks: &mut [Option<ExprId<A>>], x: ExprId<A>, y: ExprId<A>)
-    requires x_in { x < length marks.old }
-    requires y_in { y < length marks.old }
-    ensures more { MarkedMore (λ i. (i ≡ x) ⊎ (i ≡ y)) marks.old marks.new }
-    ensures x_marked { Marked marks.new x }
-    ensures y_marked { Marked marks.new y }
-{
-    mark(marks, x);
-    mark(marks, y);
-}
-
-// Marks the operands of a node.
-fn mark_operands<A: SymLeaf>(marks: &mut [Option<ExprId<A>>], node: SymbolicExpr<A>)
-    requires { OperandsBelow (length marks.old) node }
-    ensures more { MarkedMore (λ i. IsOperand i node) marks.old marks.new }
-    ensures marked { EachOperand (λ i. Marked marks.new i) node }
-{
-    match node {
-        SymbolicExpr::Leaf(_) => {}
-        SymbolicExpr::Add { x, y, .. } => mark_both(marks, x, y),
-        SymbolicExpr::Sub { x, y, .. } => mark_both(marks, x, y),
-        SymbolicExpr::Neg { x, .. } => mark(marks, x),
-        SymbolicExpr::Mul { x, y, .. } => mark_both(marks, x, y),
-    }
-}
-
 // Marks each expression of the list.
 fn mark_all<A: SymLeaf>(marks: &mut [Option<ExprId<A>>], roots: &[ExprId<A>])
     requires { All (λ x. x < length marks.old) roots.now }
@@ -68,6 +41,15 @@ fn mark_all<A: SymLeaf>(marks: &mut [Option<ExprId<A>>], roots: &[ExprId<A>])
     for root in roots {
         mark(marks, *root);
     }
+}
+
+// Marks the operands of a node.
+fn mark_operands<A: SymLeaf>(marks: &mut [Option<ExprId<A>>], node: &SymbolicExpr<A>)
+    requires { OperandsBelow (length marks.old) node.now }
+    ensures more { MarkedMore (λ i. IsOperand i node.now) marks.old marks.new }
+    ensures marked { EachOperand (λ i. Marked marks.new i) node.now }
+{
+    mark_all(marks, node.operands().as_slice());
 }
 
 // Marks the nodes that the roots reach, in descending order: a node's operands have smaller numbers.
@@ -87,7 +69,7 @@ fn mark_reached<A: SymLeaf>(
     while number > 0 {
         number -= 1;
         if let Some(x) = marks[number] {
-            mark_operands(marks, *pool.node(x));
+            mark_operands(marks, pool.node(x));
         }
     }
 }

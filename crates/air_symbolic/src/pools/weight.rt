@@ -1,7 +1,5 @@
 //! Weights of the leaves, which determine degrees.
 
-use air_field::RingError;
-
 /// The weight of each leaf in a degree.
 #[derive(Clone, Copy, Debug)]
 pub enum LeafWeight<'a> {
@@ -28,8 +26,8 @@ pub struct Degrees {
 /// The degrees of a pool's first numbers.
 #[derive(Drop)]
 pub struct DegreeTable {
-    /// The degree of each number, or the error of computing it.
-    pub degrees: Vec<Result<usize, RingError>>,
+    /// The degree of each number, or 2^128 - 1 if it is greater than that.
+    pub degrees: Vec<u128>,
     /// The number of turns taken.
     pub turns: u128,
 }

@@ -1,9 +1,12 @@
-//! Readers and writers that fail in mid-stream.
+//! Readers and writers that fail in mid-stream, that a signal interrupts, and that hold bytes back.
 
 ghost use Rattle.std.specs.Prelude.{◌≡◌, false};
 
-use air_program::{Sink, Source, StreamFault, run};
+use air_program::{ReadSource, Sink, Source, StreamFault, WriteSink, run};
+use air_streams::{read_all, write_all};
 use std::alloc::Global;
+use std::io;
+use std::io::{Error, ErrorKind, Read, Write};
 use std::test::*;
 
 /// Gives three bytes a call, and fails after a number of calls.
@@ -163,5 +166,73 @@ fn tells_failed_writes(rt: HostRuntime) -> Result<(), Fail> {
         let (answered, _) = run_cut(rt.alloc(), text, input, MANY, writes)?;
         assert_eq!(rt; answered, Some(status), "{text}");
     }
+    Ok(())
+}
+
+/// Gives three bytes a call. A signal interrupts its first reads.
+#[derive(Drop)]
+struct Interrupted<'a> {
+    bytes: &'a [u8],
+    interruptions: u64,
+}
+
+impl Read for Interrupted<'_> {
+    fn read(&mut self, buf: &mut [u8]) -> io::Result<usize> {
+        if self.interruptions > 0 {
+            self.interruptions -= 1;
+            return Err(Error::from(ErrorKind::Interrupted));
+        }
+        let bytes = self.bytes;
+        let count = bytes.len().min(buf.len()).min(3);
+        let (front, rest) = bytes.split_at(count);
+        buf[..count].copy_from_slice(front);
+        self.bytes = rest;
+        Ok(count)
+    }
+}
+
+/// Holds back what isn't flushed.
+#[derive(Drop)]
+struct HoldsBack {
+    held: Vec<u8>,
+    written: Vec<u8>,
+}
+
+impl Write for HoldsBack {
+    fn write(&mut self, buf: &[u8]) -> io::Result<usize> {
+        self.held.extend_from_slice(buf)?;
+        Ok(buf.len())
+    }
+
+    fn flush(&mut self) -> io::Result<()> {
+        self.written.extend_from_slice(&self.held)?;
+        self.held.clear();
+        Ok(())
+    }
+}
+
+/// A read that is interrupted twice is made again twice.
+#[test]
+fn repeats_interrupted_reads(rt: HostRuntime) -> Result<(), Fail> {
+    let mut source = ReadSource::new(Interrupted {
+        bytes: INPUT,
+        interruptions: 2,
+    });
+    let input = read_all(rt.alloc(), &mut source).ok();
+    assert_eq!(rt; input.as_deref(), Some(INPUT));
+    assert!(rt; source.fault().is_none());
+    Ok(())
+}
+
+/// A writer that holds bytes back until it is flushed has all of them after the call.
+#[test]
+fn flushes_what_it_writes(rt: HostRuntime) -> Result<(), Fail> {
+    let mut writer = HoldsBack {
+        held: Vec::new(rt.alloc()),
+        written: Vec::new(rt.alloc()),
+    };
+    let done = write_all(&mut WriteSink::new(&mut writer), INPUT);
+    assert_eq!(rt; done, Ok(()));
+    assert_eq!(rt; writer.written.as_slice(), INPUT);
     Ok(())
 }

@@ -1,4 +1,4 @@
-use Rattle.air_audit.proofs.Uncapped.{if_ok-map, if_err-map, on_ok-map, fits, lists, labels, counts, refuses}
+use Rattle.air_audit.proofs.Uncapped.{if_ok-map, if_err-map, on_ok-map, fits, lists, labels, row_labels, counts, refuses}
 use Rattle.air_audit.proofs.audit.audit_air.Goals as goal
 
 pub returns-clause-there : goal.returns-clause-there
@@ -18,6 +18,9 @@ returns-clause-report g c = if_ok-map c.audit_air_with_cap.result c.audit_air_wi
 
 pub returns-clause-labels : goal.returns-clause-labels
 returns-clause-labels g c = if_ok-map c.audit_air_with_cap.result c.audit_air_with_cap.ensures.audited (λ a h. labels _ _ _ a.report h.report)
+
+pub returns-clause-row_labels : goal.returns-clause-row_labels
+returns-clause-row_labels g c = if_ok-map c.audit_air_with_cap.result c.audit_air_with_cap.ensures.labels (λ a h. row_labels _ _ _ _ a.report h)
 
 pub returns-clause-counts : goal.returns-clause-counts
 returns-clause-counts g c = if_ok-map c.audit_air_with_cap.result c.audit_air_with_cap.ensures.audited (λ a h. counts _ _ _ a.report h.report)

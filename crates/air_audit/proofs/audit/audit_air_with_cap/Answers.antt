@@ -62,3 +62,6 @@ returns-clause-audited g c =
     (subst (λ a. RecordingAnswers r a (air_layout d) d) own (rw c.from_air.ensures at c.in_ok-recorded.ensures.answers))
     base ext c.in_ok-recorded.ensures.base_here c.in_ok-recorded.ensures.ext_here c.in_ok-recorded.ensures.places c.in_ok-report.ensures.report
     (subst (λ n. IsDegreeFor c.args.transition_weight n (periods_of d.periodic) (us ++ vs) c.in_ok-degree.degree) c.height.ensures c.in_ok-degree.ensures)
+
+pub returns-clause-labels : goal.returns-clause-labels
+returns-clause-labels g c = c.in_ok-report.ensures.labels

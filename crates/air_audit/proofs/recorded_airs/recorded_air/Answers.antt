@@ -45,16 +45,10 @@ returns-clause-of_an_air g c declared h =
     let is = subst (λ v. RecordsBase g.F.Field.ring g.EF.ExtensionField.over base_reads v.pool.base v.base declared) (sym c.recorded.view_is) h in
     records_zero_at g.F.Field.ring _ _ _ _ declared (c.in_ok-air.ensures.pool ∙ c.into_base-pool.ensures.base) (ap (λ v. v.items) c.in_ok-air.ensures.roots) is.terms
 
-pub returns-clause-width : goal.returns-clause-width
-returns-clause-width g c = c.in_ok-air.ensures.width
-
-pub returns-clause-num_public_values : goal.returns-clause-num_public_values
-returns-clause-num_public_values g c = c.in_ok-air.ensures.num_public_values
-
 pub returns-clause-declared : goal.returns-clause-declared
 returns-clause-declared g c =
     subst (λ v. zero_at_roots c.in_ok-air.air.pool c.in_ok-air.air.roots.items ≡ zero_at_recorded v) c.recorded.view_is
     (ap₂ (λ p r. zero_at_roots p r) (c.in_ok-air.ensures.pool ∙ c.into_base-pool.ensures.base) (ap (λ v. v.items) c.in_ok-air.ensures.roots))
 
-pub returns-clause-preprocessed : goal.returns-clause-preprocessed
-returns-clause-preprocessed g c = c.in_ok-air.ensures.preprocessed
+pub returns-clause-beside : goal.returns-clause-beside
+returns-clause-beside g c = c.in_ok-air.ensures.beside

@@ -6,8 +6,10 @@ ghost use Rattle.air_symbolic.specs.Pools.{term_at};
 ghost use Rattle.air_builder.specs.Assertion.{Assertion};
 ghost use Rattle.air_builder.specs.Batches.{AssertedEachIn, OrMemory};
 ghost use Rattle.air_builder.specs.Builders.{MeansIn};
+ghost use Rattle.air_builder.specs.Labels.{LabelledEach};
 ghost use Rattle.air_builder.specs.Refusals.{PartOf};
 ghost use Rattle.air_audit.specs.ExtPlans.{ext_ids};
+ghost use Rattle.air_audit.specs.RootLabels.{RootSays};
 ghost use Rattle.air_audit.specs.Tables.{IsMadeIn, TableMade, AssertsRoot, RootHas};
 
 use crate::flat::extension::air::FlatExtAir;
@@ -62,10 +64,14 @@ fn assert_root<AB: NamedExtensionBuilder>(
     requires of_ring { RootHas (λ i. AB.Ring.has (AB.ring_of builder.old))
         (λ i. AB.ExtRing.has (AB.ext_ring_of builder.old)) air.now.plan.base_table.items
         air.now.plan.table.items base.now table.now id }
-    ensures { AssertedEachIn ⟦<AB as View>⟧.view
+    ensures asserted { AssertedEachIn ⟦<AB as View>⟧.view
         (AssertsRoot (MeansIn ⟦<AB as View>⟧.view) (MeansIn ⟦<AB as ViewOver>⟧.view)
         air.now.plan.base_table.items air.now.plan.table.items base.now table.now)
         builder.old builder.new (id ∷ []) result }
+    ensures label { LabelledEach
+        (AssertsRoot (MeansIn ⟦<AB as View>⟧.view) (MeansIn ⟦<AB as ViewOver>⟧.view)
+        air.now.plan.base_table.items air.now.plan.table.items base.now table.now) AB.labelled
+        (λ i. RootSays air.now.labels.items root) builder.old builder.new (id ∷ []) result }
 {
     let labels = &air.labels;
     match id {
@@ -91,10 +97,14 @@ pub(crate) fn assert_roots<AB: NamedExtensionBuilder>(
     requires of_ring { All (RootHas (λ i. AB.Ring.has (AB.ring_of builder.old))
         (λ i. AB.ExtRing.has (AB.ext_ring_of builder.old)) air.now.plan.base_table.items
         air.now.plan.table.items base.now table.now) air.now.roots.items }
-    ensures { AssertedEachIn ⟦<AB as View>⟧.view
+    ensures asserted { AssertedEachIn ⟦<AB as View>⟧.view
         (AssertsRoot (MeansIn ⟦<AB as View>⟧.view) (MeansIn ⟦<AB as ViewOver>⟧.view)
         air.now.plan.base_table.items air.now.plan.table.items base.now table.now)
         builder.old builder.new air.now.roots.items result }
+    ensures labels { LabelledEach
+        (AssertsRoot (MeansIn ⟦<AB as View>⟧.view) (MeansIn ⟦<AB as ViewOver>⟧.view)
+        air.now.plan.base_table.items air.now.plan.table.items base.now table.now) AB.labelled
+        (RootSays air.now.labels.items) builder.old builder.new air.now.roots.items result }
 {
     for (root, id) in air.roots.iter().enumerate() {
         assert_root(builder, air, base, table, root, *id)?;

@@ -4,6 +4,13 @@ use Rattle.air_blake3.specs.Traces.{AreCompressionRows}
 use Rattle.air_blake3.proofs.Checked.{compression_rows_pass, compressions_hold}
 use Rattle.air_blake3.proofs.checks.are_compressions.Goals as goal
 
+pub returns-clause-answer : goal.returns-clause-answer
+returns-clause-answer g c = record {
+  report = c.in_ok-report.report;
+  exact = c.in_ok-report.ensures.report;
+  is_empty = c.is_ok.ensures;
+}
+
 pub returns-clause-sound : goal.returns-clause-sound
 returns-clause-sound g c =
     λ yes.

@@ -1,4 +1,5 @@
-use Rattle.std.proofs.Common.{◌≡◌, ◌++◌, ◌∙◌, ℕ, List, [], length, map, Ok, Err, sym, ap, subst, lit<}
+use Rattle.std.proofs.lemmas.Result.{err_from_is_err_and}
+use Rattle.std.proofs.Common.{◌≡◌, ◌*◌, ◌^◌, ◌<◌, ◌++◌, ◌∙◌, ℕ, List, [], length, map, Ok, Err, sym, ap, subst, lit<}
 use Rattle.std.specs.List.{range_with_len}
 use Rattle.std.specs.Int.{IsNextPowerOfTwo}
 use Rattle.std.proofs.lemmas.List.FromFn.{length-map-range_with_len}
@@ -75,3 +76,28 @@ returns-clause-reports g c =
     λ big.
     compression_rows_pass g.F.Field.ring g.F.PartialEq.eq g.met.F.Field.eq_is c.in-Ok.trace
     (subst (λ z. AreCompressionRows g.F.Field.ring z c.in-Ok.trace) g.met.F.Field.zero_is (returns-clause-satisfied g c big))
+
+pub returns-clause-countable : goal.returns-clause-countable
+returns-clause-countable g c =
+    let blocks = c.args.blocks.now in
+    let h = c.in_ok-rows.rows in
+    let is = trace_is g.F.Field.ring blocks h c.push_rows.new.values.items c.in_ok-values.values.items
+    c.in_ok-values.ensures.items c.in_ok-push_rows.ensures.pushed c.in-Ok.trace (sym c.new.ensures ∙ c.in-Ok.is) in
+    subst (λ n. n * 9168 < 2 ^ 64)
+    (sym (ap (λ t. length t.rows) is ∙ length-map-range_with_len (row_of g.F.Field.ring blocks) 0 h)) c.in_ok-rows.ensures.fits
+
+-- the errors of a `?`
+pub returns-in_err-rows-clause-refused : goal.returns-in_err-rows-clause-refused
+returns-in_err-rows-clause-refused g c =
+    let p = err_from_is_err_and c.from_residual.result c.from_residual.ensures.1 in
+    rw (p.1, p.2, c.in_err-rows.ensures.why) c.in_err-rows.ensures.refused
+
+pub returns-in_err-values-clause-refused : goal.returns-in_err-values-clause-refused
+returns-in_err-values-clause-refused g c =
+    let p = err_from_is_err_and c.from_residual-in_err-values.result c.from_residual-in_err-values.ensures.1 in
+    rw (p.1, p.2) (c.in_ok-rows.rows, c.in_ok-rows.ensures.rows, c.in_ok-rows.ensures.fits)
+
+pub returns-in_err-push_rows-clause-refused : goal.returns-in_err-push_rows-clause-refused
+returns-in_err-push_rows-clause-refused g c =
+    let p = err_from_is_err_and c.from_residual-in_err-push_rows.result c.from_residual-in_err-push_rows.ensures.1 in
+    rw (p.1, p.2) (c.in_ok-rows.rows, c.in_ok-rows.ensures.rows, c.in_ok-rows.ensures.fits)

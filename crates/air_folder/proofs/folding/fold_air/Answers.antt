@@ -17,7 +17,7 @@ returns-clause-folded g c =
     folded_air r over g.EF.ExtensionField.basis d ts
     record { recorded = c.in_ok-recorded.recorded; layout = c.in_ok-recorded.layout; accumulator = c.accumulator.result }
     c.in_ok-recorded.ensures.base c.in_ok-recorded.ensures.ext c.in_ok-recorded.ensures.places
-    (fold_from_zero over.ring d.alpha values c.args.folder.now.accumulator c.requires.from_zero c.eval.new.builder.accumulator c.accumulator.result c.in_ok-eval.ensures.asserted.ok.folded c.accumulator.ensures)
+    (fold_from_zero over.ring d.alpha values c.args.folder.now.accumulator c.requires.from_zero c.eval.new.builder.accumulator c.accumulator.result c.in_ok-eval.ensures.evaluated.asserted.ok.folded c.accumulator.ensures)
 
 -- an error that is passed on is the one that came
 handed_on : {T E : Type 0} (r : Result T E) (e : E) (P : E → Type 0) → IsErrAnd r (λ x. x ≡ e) → P e → IfErr r P
@@ -27,7 +27,7 @@ handed_on (Err x) e P h p = subst P (sym h) p
 pub returns-in_err-eval-clause-refused : goal.returns-in_err-eval-clause-refused
 returns-in_err-eval-clause-refused g c =
     handed_on c.from_residual-in_err-eval.result _ (FoldingRefuses g.F.Field.ring g.EF.ExtensionField.over c.args.layout (g.A.BaseAir.declaration c.args.air.now) (folder_row c.args.folder.now))
-    c.from_residual-in_err-eval.ensures.1 (inr (c.in_ok-recorded.ensures.answers, c.in_err-eval.ensures.asserted.refused))
+    c.from_residual-in_err-eval.ensures.1 (inr (c.in_ok-recorded.ensures.answers, c.in_err-eval.ensures.evaluated.asserted.refused))
 
 pub returns-in_err-recorded-clause-folded : goal.returns-in_err-recorded-clause-folded
 returns-in_err-recorded-clause-folded g c =

@@ -15,7 +15,7 @@ pub returns-in_default-clause-pushes : goal.returns-in_default-clause-pushes
 returns-in_default-clause-pushes g c =
     let air = c.args.air.now in
     let k = c.args.failure.now.constraint in
-    cell_explained g.F.PrimeField64.residues g.F.Field.ring g.met.F.PrimeField64.ring_is air.pool air.roots.items air.cells.items (trace_of c.args.trace.now) c.args.names.now.1 (seen_failure c.args.failure.now) (string_bytes c.args.text.now) (string_bytes c.push_failure.new.text) (string_bytes c.push_cell_below.new.text)
+    cell_explained g.F.PrimeField64.residues g.F.Field.ring g.met.F.PrimeField64.ring_is air.pool air.roots.items air.beside.cells.items (trace_of c.args.trace.now) c.args.names.now.1 (seen_failure c.args.failure.now) (string_bytes c.args.text.now) (string_bytes c.push_failure.new.text) (string_bytes c.push_cell_below.new.text)
     (ap (λ (xs : List ℕ). slice_get xs k) (sym c.deref.ensures.value) ∙ item_past c.deref.result.now k c.in_default.ensures.lookup)
     c.in_ok-push_failure.ensures c.in_ok-push_cell_below.ensures
 
@@ -23,7 +23,7 @@ pub returns-then-failure-height-clause-pushes : goal.returns-then-failure-height
 returns-then-failure-height-clause-pushes g c =
     let air = c.args.air.now in
     let k = c.args.failure.now.constraint in
-    past_explained g.F.PrimeField64.residues g.F.Field.ring g.met.F.PrimeField64.ring_is air.pool air.roots.items air.cells.items (trace_of c.args.trace.now) c.args.names.now.1 (seen_failure c.args.failure.now) c.in-Some.root.now (string_bytes c.args.text.now) (string_bytes c.push_failure.new.text)
+    past_explained g.F.PrimeField64.residues g.F.Field.ring g.met.F.PrimeField64.ring_is air.pool air.roots.items air.beside.cells.items (trace_of c.args.trace.now) c.args.names.now.1 (seen_failure c.args.failure.now) c.in-Some.root.now (string_bytes c.args.text.now) (string_bytes c.push_failure.new.text)
     (ap (λ (xs : List ℕ). slice_get xs k) (sym c.deref.ensures.value) ∙ item_there c.deref.result.now k c.in-Some.root c.in-Some.ensures.lookup)
     (omega (arith, c.if-failure-height.true, c.height.ensures))
     c.in_ok-push_failure.ensures
@@ -45,7 +45,7 @@ returns-clause-pushes g c =
     let read = c.deref-3.result.now in
     let there : IsItemAt air.roots.items k (Some c.in-Some.root) =
     subst (λ (xs : List ℕ). IsItemAt xs k (Some c.in-Some.root)) c.deref.ensures.value c.in-Some.ensures.lookup in
-    root_explained m r g.met.F.PrimeField64.ring_is air.pool air.roots.items air.cells.items (trace_of c.args.trace.now) c.args.names.now.1 (seen_failure c.args.failure.now) root c.args.marks.now c.in_ok-at.at read (string_bytes c.args.text.now) (string_bytes c.push_failure.new.text) (string_bytes c.push_explained.new.text)
+    root_explained m r g.met.F.PrimeField64.ring_is air.pool air.roots.items air.beside.cells.items (trace_of c.args.trace.now) c.args.names.now.1 (seen_failure c.args.failure.now) root c.args.marks.now c.in_ok-at.at read (string_bytes c.args.text.now) (string_bytes c.push_failure.new.text) (string_bytes c.push_explained.new.text)
     (item_there air.roots.items k c.in-Some.root there)
     c.requires.marks c.in_ok-at.ensures.known c.in_ok-at.ensures.row
     (item_has (λ i. i < length ns) air.roots.items k c.in-Some.root there air.roots_in.here)

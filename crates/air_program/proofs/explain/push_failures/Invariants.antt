@@ -11,6 +11,6 @@ abbrev pub invariant-loop-failure : goal.invariant-loop-failure
 invariant-loop-failure g l =
     let trace = trace_of l.trace in
     record {
-      pushes : PushesExplained g.F.PrimeField64.residues l.air.pool l.air.roots.items l.air.cells.items trace l.names.1 (map seen_failure (take l.failure-index l.failures)) (string_bytes l.fn.text) (string_bytes l.text);
+      pushes : PushesExplained g.F.PrimeField64.residues l.air.pool l.air.roots.items l.air.beside.cells.items trace l.names.1 (map seen_failure (take l.failure-index l.failures)) (string_bytes l.fn.text) (string_bytes l.text);
       known : IfSome l.at_hand (KnownAt g.F.Field.ring trace l.air.pool.nodes l.marks.items);
     }

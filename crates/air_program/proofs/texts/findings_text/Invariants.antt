@@ -4,4 +4,4 @@ use Rattle.air_program.proofs.TextLemmas.{HasLines}
 use Rattle.air_program.proofs.texts.findings_text.Given as goal
 
 abbrev pub invariant-loop-failure : goal.invariant-loop-failure
-invariant-loop-failure l = HasLines (count_lines (found_in l.findings)) l.findings.report.failures.items l.failure-index (string_bytes l.text)
+invariant-loop-failure g l = HasLines (count_lines (found_in l.audit)) l.audit.report.failures.items l.failure-index (string_bytes l.text)

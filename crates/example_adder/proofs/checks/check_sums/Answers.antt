@@ -7,8 +7,8 @@ use Rattle.p3_air.specs.laws.Claims.{bits_of_word, plain_vanish, adds_up, both_v
 use Rattle.example_adder.specs.Adder.{adder}
 use Rattle.example_adder.proofs.checks.check_sums.Goals as goal
 
-pub returns : goal.returns
-returns g c =
+pub returns-clause-sums : goal.returns-clause-sums
+returns-clause-sums g c =
     let R = g.F.Field.ring in
     let domain = g.met.F.PrimeField.domain in
     on_ok_weaker c.check_constraints.result

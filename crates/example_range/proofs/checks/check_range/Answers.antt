@@ -6,8 +6,8 @@ use Rattle.p3_air.specs.laws.Claims.{bits_below, plain_vanish}
 use Rattle.example_range.specs.Range.{range}
 use Rattle.example_range.proofs.checks.check_range.Goals as goal
 
-pub returns : goal.returns
-returns g c =
+pub returns-clause-below : goal.returns-clause-below
+returns-clause-below g c =
     let R = g.F.Field.ring in
     on_ok_weaker c.check_constraints.result
     (λ kept row lt.

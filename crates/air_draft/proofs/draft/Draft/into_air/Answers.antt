@@ -20,19 +20,10 @@ returns-in_err-air-clause-refused g c =
     let p = err_from_is_err_and c.from_residual-in_err-air.result c.from_residual-in_err-air.ensures.1 in
     rw (p.1, p.2, c.in_err-air.ensures.refused) (inr (search rules, tt))
 
-pub returns-in-Some-preprocessed-clause-records : goal.returns-in-Some-preprocessed-clause-records
-returns-in-Some-preprocessed-clause-records g c =
-    let made = c.in_ok-pool.field-0 in
-    let tabled = c.with_preprocessed.ensures in
-    let labelled = c.with_labels-air.ensures in
-    let air = c.in_ok-air.ensures in
-    rw (tabled.pool, tabled.roots, labelled.pool, labelled.roots, air.pool, air.roots)
-    (records_terms g.F.Field.ring made.pool made.roots.items (claim_terms g.F.Field.ONE c.args.self) c.in_ok-pool.ensures.means)
-
 pub returns-clause-records : goal.returns-clause-records
 returns-clause-records g c =
     let made = c.in_ok-pool.field-0 in
-    let labelled = c.with_labels-air.ensures in
+    let labelled = c.with_labels.ensures in
     let air = c.in_ok-air.ensures in
     rw (labelled.pool, labelled.roots, air.pool, air.roots)
     (records_terms g.F.Field.ring made.pool made.roots.items (claim_terms g.F.Field.ONE c.args.self) c.in_ok-pool.ensures.means)

@@ -32,22 +32,11 @@ returns-in_err-air-clause-refused g c =
           basis made.pool made.roots.items c.in_err-air.ensures.refused,
     ))
 
-pub returns-in-Some-preprocessed-clause-records : goal.returns-in-Some-preprocessed-clause-records
-returns-in-Some-preprocessed-clause-records g c =
-    let extension = g.EF.ExtensionField in
-    let made = c.in_ok-pool.field-0 in
-    let tabled = c.with_preprocessed.ensures in
-    let labelled = c.with_labels-air.ensures in
-    let air = c.in_ok-air.ensures in
-    rw (tabled.pool, tabled.roots, labelled.pool, labelled.roots, air.pool, air.roots)
-    (records_roots g.F.Field.ring extension.over g.met.EF.ExtensionField.over_laws extension.basis made.pool made.roots.items
-    (ext_declared_by g.F.Field.ONE extension.basis c.args.self) c.in_ok-pool.ensures.means)
-
 pub returns-clause-records : goal.returns-clause-records
 returns-clause-records g c =
     let extension = g.EF.ExtensionField in
     let made = c.in_ok-pool.field-0 in
-    let labelled = c.with_labels-air.ensures in
+    let labelled = c.with_labels.ensures in
     let air = c.in_ok-air.ensures in
     rw (labelled.pool, labelled.roots, air.pool, air.roots)
     (records_roots g.F.Field.ring extension.over g.met.EF.ExtensionField.over_laws extension.basis made.pool made.roots.items

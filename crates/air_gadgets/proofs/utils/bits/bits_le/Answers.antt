@@ -3,7 +3,7 @@ use Rattle.std.proofs.Math.Seq.{take-suc-set}
 use Rattle.std.proofs.lemmas.List.{take_all}
 use Rattle.air_field.specs.Ring.{image}
 use Rattle.air_gadgets.specs.Bits.{digits_of, binary_sum}
-use Rattle.air_gadgets.specs.laws.Bits.{digit_taken, packed-digits}
+use Rattle.air_gadgets.specs.laws.Bits.{digit_taken, image-bit, packed-digits}
 use Rattle.air_gadgets.proofs.utils.bits.bits_le.Goals as goal
 
 pub loop-i-preserved : goal.loop-i-preserved
@@ -11,10 +11,10 @@ loop-i-preserved g c =
     let images = map (image g.F.Field.ring) (digits_of 2 g.row.N c.args.val) in
     let inside : c.loop-i.i < length c.loop-i.bits = omega (arith, c.loop-i.invariant.0, c.loop-i-test.true) in
     let next : g.row.N - c.loop-i.i ≡ suc (g.row.N - suc c.loop-i.i) = omega (arith, c.loop-i-test.true) in (
-      length-set c.loop-i.bits c.loop-i.i c.from_u64.result ∙ c.loop-i.invariant.0,
+      length-set c.loop-i.bits c.loop-i.i c.from_bool.result ∙ c.loop-i.invariant.0,
       rw add-one
-          (digit_taken g.F.Field.ring images (take c.loop-i.i c.loop-i.bits) (g.row.N - suc c.loop-i.i) (g.row.N - c.loop-i.i) c.loop-i.left c.from_u64.result next c.from_u64.ensures c.loop-i.invariant.1
-          ∙ ap (λ l. l ++ map (image g.F.Field.ring) (digits_of 2 (g.row.N - suc c.loop-i.i) (c.loop-i.left / 2))) (sym (take-suc-set c.loop-i.bits c.loop-i.i c.from_u64.result inside))),
+          (digit_taken g.F.Field.ring images (take c.loop-i.i c.loop-i.bits) (g.row.N - suc c.loop-i.i) (g.row.N - c.loop-i.i) c.loop-i.left c.from_bool.result next (c.from_bool.ensures ∙ image-bit g.F.Field.ring c.loop-i.left) c.loop-i.invariant.1
+          ∙ ap (λ l. l ++ map (image g.F.Field.ring) (digits_of 2 (g.row.N - suc c.loop-i.i) (c.loop-i.left / 2))) (sym (take-suc-set c.loop-i.bits c.loop-i.i c.from_bool.result inside))),
     )
 
 pub returns-clause-bits : goal.returns-clause-bits

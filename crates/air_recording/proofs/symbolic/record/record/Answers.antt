@@ -1,9 +1,9 @@
 use Rattle.std.specs.List.{AllZip}
-use Rattle.std.proofs.Common.{◌≡◌, ◌<◌, ◌^◌, ◌++◌, inr, ⊎_elim, map, sym, subst, ◌∙◌, ap, ap₂}
+use Rattle.std.proofs.Common.{◌≡◌, ◌++◌, inr, ⊎_elim, map, sym, subst, ◌∙◌, ap}
 use Rattle.std.proofs.lemmas.Result.{err_from_is_err_and}
 use Rattle.air_field.specs.Ring.{self_algebra, self_algebra_laws}
 use Rattle.air_field.specs.Assignment.{IsMissing}
-use Rattle.air_field.specs.Degree.{cached_weight, greatest_degree}
+use Rattle.air_field.specs.Degree.{cached_weight}
 use Rattle.air_symbolic.specs.BaseLeaves.{base_reads}
 use Rattle.air_symbolic.specs.ExtLeaves.{ext_reads}
 use Rattle.air_symbolic.specs.Pools.{PoolMeans}
@@ -16,6 +16,7 @@ use Rattle.air_recording.specs.Layouts.{layout_shape}
 use Rattle.air_recording.specs.declared.layouts.air_layout.AirLayout.{AirLayout}
 use Rattle.air_recording.specs.Recorded.{terms_of}
 use Rattle.air_recording.specs.Recording.{OverflowsDegree}
+use Rattle.air_recording.proofs.InferredDegrees.{greatest_in_range, both_in_range}
 use Rattle.air_recording.proofs.Recordings.{each_records, numbers_here}
 use Rattle.air_recording.proofs.symbolic.record.record.Goals as goal
 
@@ -23,7 +24,7 @@ pub returns-clause-base : goal.returns-clause-base
 returns-clause-base g c =
     let r = g.F.Field.ring in
     let ts = (g.A.BaseAir.declaration c.args.air.now).constraints in
-    let grew = c.in_ok-eval.ensures.asserted.ok in
+    let grew = c.in_ok-eval.ensures.evaluated.asserted.ok in
     let pool = c.eval.new.builder.pool in
     let numbers = c.eval.new.builder.constraints.base.items in
     let all : numbers ≡ grew.more_base = grew.base ∙ ap (λ l. l.base ++ grew.more_base) c.in_ok-builder.ensures.none in
@@ -40,7 +41,7 @@ returns-clause-ext g c =
     let r = g.F.Field.ring in
     let reads = ext_reads g.EF.ExtensionField.basis in
     let ts = (g.A.BaseAir.declaration c.args.air.now).constraints in
-    let grew = c.in_ok-eval.ensures.asserted.ok in
+    let grew = c.in_ok-eval.ensures.evaluated.asserted.ok in
     let pool = c.eval.new.builder.pool in
     let numbers = c.eval.new.builder.constraints.ext.items in
     let all : numbers ≡ grew.more_ext = grew.ext ∙ ap (λ l. l.ext ++ grew.more_ext) c.in_ok-builder.ensures.none in
@@ -55,7 +56,7 @@ pub returns-clause-base_here : goal.returns-clause-base_here
 returns-clause-base_here g c =
     let r = g.F.Field.ring in
     let ts = base_terms (g.A.BaseAir.declaration c.args.air.now).constraints in
-    let grew = c.in_ok-eval.ensures.asserted.ok in
+    let grew = c.in_ok-eval.ensures.evaluated.asserted.ok in
     let pool = c.eval.new.builder.pool.base in
     let all : c.eval.new.builder.constraints.base.items ≡ grew.more_base = grew.base ∙ ap (λ l. l.base ++ grew.more_base) c.in_ok-builder.ensures.none in
     numbers_here r base_reads pool c.eval.new.builder.constraints.base.items ts (subst (λ l. AllZip (PoolMeans base_reads r pool) l ts) (sym all) grew.each_base)
@@ -65,20 +66,20 @@ returns-clause-ext_here g c =
     let r = g.F.Field.ring in
     let reads = ext_reads g.EF.ExtensionField.basis in
     let ts = ext_terms (g.A.BaseAir.declaration c.args.air.now).constraints in
-    let grew = c.in_ok-eval.ensures.asserted.ok in
+    let grew = c.in_ok-eval.ensures.evaluated.asserted.ok in
     let pool = c.eval.new.builder.pool in
     let all : c.eval.new.builder.constraints.ext.items ≡ grew.more_ext = grew.ext ∙ ap (λ l. l.ext ++ grew.more_ext) c.in_ok-builder.ensures.none in
     numbers_here r reads pool c.eval.new.builder.constraints.ext.items ts (subst (λ l. AllZip (PoolMeans reads r pool) l ts) (sym all) grew.each_ext)
 
 pub returns-clause-kinds : goal.returns-clause-kinds
 returns-clause-kinds g c =
-    let grew = c.in_ok-eval.ensures.asserted.ok in
+    let grew = c.in_ok-eval.ensures.evaluated.asserted.ok in
     grew.kinds ∙ ap (λ l. l.kinds ++ map kind_of (g.A.BaseAir.declaration c.args.air.now).constraints) c.in_ok-builder.ensures.none
 
 pub returns-clause-layout : goal.returns-clause-layout
 returns-clause-layout g c = record {
   fits = c.in_ok-validate_against_air.ensures.fits;
-  there = subst (λ l. NoneMissing (IsMissing (layout_shape l)) (g.A.BaseAir.declaration c.args.air.now).constraints) c.in_ok-builder.ensures.layout c.in_ok-eval.ensures.there;
+  there = subst (λ l. NoneMissing (IsMissing (layout_shape l)) (g.A.BaseAir.declaration c.args.air.now).constraints) c.in_ok-builder.ensures.layout c.in_ok-eval.ensures.evaluated.there;
 }
 
 pub returns-in_err-eval-clause-refused : goal.returns-in_err-eval-clause-refused
@@ -90,30 +91,9 @@ returns-in_err-eval-clause-refused g c =
     ⊎_elim
     (λ (m : e ≡ Memory). subst (refuses c.args.layout) (sym m) tt)
     (λ r. subst (λ l. refuses l e) c.in_ok-builder.ensures.layout r)
-    c.in_err-eval.ensures.asserted.refused in
+    c.in_err-eval.ensures.evaluated.asserted.refused in
     let p = err_from_is_err_and c.from_residual-in_err-eval.result c.from_residual-in_err-eval.ensures.1 in
     rw (p.1, p.2) (inr (c.in_ok-validate_against_air.ensures.fits, refused))
-
-pub greatest_recorded-greatest-requires-clause-base_here :
-    goal.greatest_recorded-greatest-requires-clause-base_here
-greatest_recorded-greatest-requires-clause-base_here g c =
-    let r = g.F.Field.ring in
-    let ts = base_terms (g.A.BaseAir.declaration c.args.air.now).constraints in
-    let grew = c.in_ok-eval.ensures.asserted.ok in
-    let pool = c.eval.new.builder.pool.base in
-    let all : c.deref.result.now ≡ grew.more_base = c.deref.ensures.value ∙ (grew.base ∙ ap (λ l. l.base ++ grew.more_base) c.in_ok-builder.ensures.none) in
-    numbers_here r base_reads pool c.deref.result.now ts (subst (λ l. AllZip (PoolMeans base_reads r pool) l ts) (sym all) grew.each_base)
-
-pub greatest_recorded-greatest-requires-clause-ext_here :
-    goal.greatest_recorded-greatest-requires-clause-ext_here
-greatest_recorded-greatest-requires-clause-ext_here g c =
-    let r = g.F.Field.ring in
-    let reads = ext_reads g.EF.ExtensionField.basis in
-    let ts = ext_terms (g.A.BaseAir.declaration c.args.air.now).constraints in
-    let grew = c.in_ok-eval.ensures.asserted.ok in
-    let pool = c.eval.new.builder.pool in
-    let all : c.deref-2.result.now ≡ grew.more_ext = c.deref-2.ensures.value ∙ (grew.ext ∙ ap (λ l. l.ext ++ grew.more_ext) c.in_ok-builder.ensures.none) in
-    numbers_here r reads pool c.deref-2.result.now ts (subst (λ l. AllZip (PoolMeans reads r pool) l ts) (sym all) grew.each_ext)
 
 pub returns-clause-answers : goal.returns-clause-answers
 returns-clause-answers g c =
@@ -121,14 +101,16 @@ returns-clause-answers g c =
     let built = c.eval.new.builder in
     let us = terms_of base_reads built.pool.base built.constraints.base.items in
     let vs = terms_of reads built.pool built.constraints.ext.items in
-    let greatest : c.greatest_recorded-greatest.result ≡ greatest_degree cached_weight (us ++ vs) =
-    c.greatest_recorded-greatest.ensures.value
-    ∙ ap₂ (λ bs xs. greatest_degree cached_weight (terms_of base_reads built.pool.base bs ++ terms_of reads built.pool xs)) c.deref.ensures.value c.deref-2.ensures.value in
+    let base = returns-clause-base g c in
+    let ext = returns-clause-ext g c in
     record {
       suits = returns-clause-layout g c;
       base = us;
       ext = vs;
-      base_recorded = (returns-clause-base g c).terms;
-      ext_recorded = (returns-clause-ext g c).terms;
-      within = subst (λ n. n < 2 ^ 64) greatest c.greatest_recorded-greatest.ensures.fits;
+      base_recorded = base.terms;
+      ext_recorded = ext.terms;
+      within =
+          both_in_range cached_weight us vs
+          (greatest_in_range base_reads built.pool.base built.constraints.base.items base.well_formed (returns-clause-base_here g c))
+          (greatest_in_range reads built.pool built.constraints.ext.items ext.well_formed (returns-clause-ext_here g c));
     }

@@ -21,9 +21,9 @@ pub returns-clause-leaves : goal.returns-clause-leaves
 returns-clause-leaves g c =
     let r = g.F.Field.ring in
     record {
-      first = kept r c.leaf_expr-2.new.self c.leaf_expr-3.new.self _ c.in_ok-first_row.first_row c.leaf_expr-3.ensures.grown (kept r c.leaf_expr.new.self c.leaf_expr-2.new.self _ c.in_ok-first_row.first_row c.leaf_expr-2.ensures.grown c.in_ok-first_row.ensures.tree);
-      last = kept r c.leaf_expr-2.new.self c.leaf_expr-3.new.self _ c.in_ok-last_row.last_row c.leaf_expr-3.ensures.grown c.in_ok-last_row.ensures.tree;
-      step = c.in_ok-transition.ensures.tree;
+      first = kept r c.leaf_expr-2.new.self c.leaf_expr-3.new.self _ c.in_ok-is_first_row.is_first_row c.leaf_expr-3.ensures.grown (kept r c.leaf_expr.new.self c.leaf_expr-2.new.self _ c.in_ok-is_first_row.is_first_row c.leaf_expr-2.ensures.grown c.in_ok-is_first_row.ensures.tree);
+      last = kept r c.leaf_expr-2.new.self c.leaf_expr-3.new.self _ c.in_ok-is_last_row.is_last_row c.leaf_expr-3.ensures.grown c.in_ok-is_last_row.ensures.tree;
+      step = c.in_ok-is_transition.ensures.tree;
     }
 
 pub returns-clause-mean : goal.returns-clause-mean
@@ -33,13 +33,13 @@ returns-clause-mean g c =
     let q = c.leaf_expr-2.new.self in
     let r = c.leaf_expr-3.new.self in
     record {
-      first = laws.means_stays p r c.in_ok-first_row.first_row (leaf_term first_row) (laws.joined p q r c.leaf_expr-2.ensures.grown c.leaf_expr-3.ensures.grown) c.in_ok-first_row.ensures.made.1;
-      last = laws.means_stays q r c.in_ok-last_row.last_row (leaf_term last_row) c.leaf_expr-3.ensures.grown c.in_ok-last_row.ensures.made.1;
-      step = c.in_ok-transition.ensures.made.1;
+      first = laws.means_stays p r c.in_ok-is_first_row.is_first_row (leaf_term first_row) (laws.joined p q r c.leaf_expr-2.ensures.grown c.leaf_expr-3.ensures.grown) c.in_ok-is_first_row.ensures.made.1;
+      last = laws.means_stays q r c.in_ok-is_last_row.is_last_row (leaf_term last_row) c.leaf_expr-3.ensures.grown c.in_ok-is_last_row.ensures.made.1;
+      step = c.in_ok-is_transition.ensures.made.1;
     }
 
-pub returns-in_err-last_row-clause-grown : goal.returns-in_err-last_row-clause-grown
-returns-in_err-last_row-clause-grown g c =
+pub returns-in_err-is_last_row-clause-grown : goal.returns-in_err-is_last_row-clause-grown
+returns-in_err-is_last_row-clause-grown g c =
     (base_pool_laws g.F.Field.ring).joined c.args.pool.now c.leaf_expr.new.self c.leaf_expr-2.new.self c.leaf_expr.ensures.grown c.leaf_expr-2.ensures.grown
 
 -- three growths in sequence
@@ -48,8 +48,8 @@ thrice r o p q s f g h =
     let laws = base_pool_laws r in
     laws.joined o q s (laws.joined o p q f g) h
 
-pub returns-in_err-transition-clause-grown : goal.returns-in_err-transition-clause-grown
-returns-in_err-transition-clause-grown g c = thrice g.F.Field.ring _ _ _ _ c.leaf_expr.ensures.grown c.leaf_expr-2.ensures.grown c.leaf_expr-3.ensures.grown
+pub returns-in_err-is_transition-clause-grown : goal.returns-in_err-is_transition-clause-grown
+returns-in_err-is_transition-clause-grown g c = thrice g.F.Field.ring _ _ _ _ c.leaf_expr.ensures.grown c.leaf_expr-2.ensures.grown c.leaf_expr-3.ensures.grown
 
 pub returns-clause-grown : goal.returns-clause-grown
 returns-clause-grown g c = thrice g.F.Field.ring _ _ _ _ c.leaf_expr.ensures.grown c.leaf_expr-2.ensures.grown c.leaf_expr-3.ensures.grown

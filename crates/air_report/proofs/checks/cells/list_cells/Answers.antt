@@ -19,22 +19,22 @@ returns-in_err-failure-clause-refused g c =
     let r = g.F.Field.ring in
     let eq = g.F.PartialEq.eq in
     let few : IsReached c.args.max_failures (length c.cells.failures.items) → ⊥ = search rules in
-    let set : c.differs.result ≡ true = search rules in
+    let set : c.is_violated.result ≡ true = search rules in
     rw (p.1, p.2)
     (elim c.in_err-failure.ensures.refused [
       | inl h ↦ inl h
-      | inr h ↦ inr (h.0, listed_past r eq c.args.main.now c.args.public_values.now (length c.args.main.now.rows) c.args.count c.args.max_failures c.args.cells.now c.cells.place c.args.failures.now.items c.cells.failures.items c.cells.invariant _ c.cells-test.true (sym c.differs.ensures ∙ set) few h.1)
+      | inr h ↦ inr (h.0, listed_past r eq c.args.main.now c.args.public_values.now (length c.args.main.now.rows) c.args.count c.args.max_failures c.args.cells.now c.cells.place c.args.failures.now.items c.cells.failures.items c.cells.invariant _ c.cells-test.true (sym c.is_violated.ensures ∙ set) few h.1)
     ])
 
-pub cells-preserved-then-not-differs : goal.cells-preserved-then-not-differs
-cells-preserved-then-not-differs g c =
-    let unset : c.differs.result ≡ false = search rules in
-    lists_same g.F.Field.ring g.F.PartialEq.eq c.args.main.now c.args.public_values.now (length c.args.main.now.rows) c.args.count c.args.max_failures c.args.cells.now c.cells.place c.args.failures.now.items c.cells.failures.items c.cells.invariant _ c.cells-test.true (sym c.differs.ensures ∙ unset)
+pub cells-preserved-then-not-is_violated : goal.cells-preserved-then-not-is_violated
+cells-preserved-then-not-is_violated g c =
+    let unset : c.is_violated.result ≡ false = search rules in
+    lists_same g.F.Field.ring g.F.PartialEq.eq c.args.main.now c.args.public_values.now (length c.args.main.now.rows) c.args.count c.args.max_failures c.args.cells.now c.cells.place c.args.failures.now.items c.cells.failures.items c.cells.invariant _ c.cells-test.true (sym c.is_violated.ensures ∙ unset)
 
 pub cells-preserved : goal.cells-preserved
 cells-preserved g c =
     let few : IsReached c.args.max_failures (length c.cells.failures.items) → ⊥ = search rules in
-    let set : c.differs.result ≡ true = search rules in
+    let set : c.is_violated.result ≡ true = search rules in
     let push : c.push.new.self.items ≡ c.cells.failures.items ++ c.in_ok-failure.failure ∷ [] = grind (arith, common_steps) in
     let place : failure_place c.in_ok-failure.failure ≡ (c.row.result, c.args.count + c.cells.place) = c.in_ok-failure.ensures.place in
-    lists_new g.F.Field.ring g.F.PartialEq.eq c.args.main.now c.args.public_values.now (length c.args.main.now.rows) c.args.count c.args.max_failures c.args.cells.now c.cells.place c.args.failures.now.items c.cells.failures.items c.cells.invariant _ c.in_ok-failure.failure c.push.new.self.items c.cells-test.true (sym c.differs.ensures ∙ set) few push (place ∙ search rules) c.in_ok-failure.ensures.label
+    lists_new g.F.Field.ring g.F.PartialEq.eq c.args.main.now c.args.public_values.now (length c.args.main.now.rows) c.args.count c.args.max_failures c.args.cells.now c.cells.place c.args.failures.now.items c.cells.failures.items c.cells.invariant _ c.in_ok-failure.failure c.push.new.self.items c.cells-test.true (sym c.is_violated.ensures ∙ set) few push (place ∙ search rules) c.in_ok-failure.ensures.label

@@ -1,11 +1,13 @@
 use Rattle.std.proofs.Common.{ap, subst, inl, inr, ◌∙◌}
 use Rattle.std.proofs.lemmas.Result.{err_from_is_err_and}
 use Rattle.air_report.specs.Cells.{CellsFit, IsCellFault}
-use Rattle.air_report.specs.Checks.{CheckRefuses}
-use Rattle.air_report.specs.Instances.{instance}
+use Rattle.air_report.specs.Checks.{CheckRefuses, TraceMissing}
+use Rattle.air_report.specs.Instances.{instance, instance_trace}
+use Rattle.air_report.specs.Report.{zero_at}
 use Rattle.air_report.specs.Shapes.{table_height}
 use Rattle.air_report.proofs.GivenUp.{error_is, instance_fits, instance_fault, cells_refused}
 use Rattle.air_report.proofs.Reports.{listed_after}
+use Rattle.air_report.proofs.RowsLabelled.{labels_rows}
 use Rattle.air_report.proofs.checks.check.check_all_constraints.Goals as goal
 
 pub returns-in_err-check_shapes-clause-report : goal.returns-in_err-check_shapes-clause-report
@@ -59,7 +61,11 @@ returns-in_err-list_cells-clause-refused g c =
     let checked = c.in_ok-checked.ensures.checked in
     let cells = subst (λ cs. CellsFit all.main all.public cs) c.public_boundary_io-cells.ensures c.in_ok-check_cells.ensures.fit in
     error_is c.from_residual-in_err-list_cells.result c.from_residual-in_err-list_cells.ensures.1 (CheckRefuses g.F.Field.ring g.F.PartialEq.eq all c.args.max_failures)
-    (cells_refused g.F.Field.ring g.F.PartialEq.eq all c.args.max_failures checked.shown c.in_ok-checked.checked.failures.items c.in_ok-checked.checked.constraints _ c.in_err-list_cells.field-0.0 fits checked.ran cells checked.places checked.counted c.public_boundary_io-cells.ensures c.in_err-list_cells.ensures.refused)
+    (inr (
+      fits,
+      cells_refused g.F.Field.ring g.F.PartialEq.eq (zero_at g.F.Field.ring g.F.PartialEq.eq (instance_trace all)) (TraceMissing all) all c.args.max_failures checked.shown c.in_ok-checked.checked.failures.items c.in_ok-checked.checked.constraints _
+          c.in_err-list_cells.field-0.0 checked.ran cells checked.places checked.counted c.public_boundary_io-cells.ensures c.in_err-list_cells.ensures.refused,
+    ))
 
 pub returns-clause-report : goal.returns-clause-report
 returns-clause-report g c =
@@ -72,7 +78,33 @@ returns-clause-report g c =
       cells = subst (λ cs. CellsFit all.main all.public cs) c.public_boundary_io-cells.ensures c.in_ok-check_cells.ensures.fit;
       of_rows = c.in_ok-checked.checked.failures.items;
       places = checked.places;
-      lists = listed_after g.F.Field.ring g.F.PartialEq.eq all c.args.max_failures checked.shown c.in_ok-checked.checked.failures.items _ c.in_ok-checked.checked.constraints _ checked.places checked.counted c.public_boundary_io-cells.ensures c.in_ok-list_cells.ensures.listed;
+      lists = listed_after g.F.Field.ring g.F.PartialEq.eq (zero_at g.F.Field.ring g.F.PartialEq.eq (instance_trace all)) all c.args.max_failures checked.shown c.in_ok-checked.checked.failures.items _ c.in_ok-checked.checked.constraints _ checked.places checked.counted c.public_boundary_io-cells.ensures c.in_ok-list_cells.ensures.listed;
       rows = c.height-total_rows.ensures;
       count = checked.counted;
     }
+
+pub returns-in_err-check_shapes-clause-labels : goal.returns-in_err-check_shapes-clause-labels
+returns-in_err-check_shapes-clause-labels g c =
+    let p = err_from_is_err_and c.from_residual.result c.from_residual.ensures.1 in
+    rw p.1 tt
+
+pub returns-in_err-checked-clause-labels : goal.returns-in_err-checked-clause-labels
+returns-in_err-checked-clause-labels g c =
+    let p = err_from_is_err_and c.from_residual-in_err-checked.result c.from_residual-in_err-checked.ensures.1 in
+    rw p.1 tt
+
+pub returns-in_err-check_cells-clause-labels : goal.returns-in_err-check_cells-clause-labels
+returns-in_err-check_cells-clause-labels g c =
+    let p = err_from_is_err_and c.from_residual-in_err-check_cells.result c.from_residual-in_err-check_cells.ensures.1 in
+    rw p.1 tt
+
+pub returns-in_err-list_cells-clause-labels : goal.returns-in_err-list_cells-clause-labels
+returns-in_err-list_cells-clause-labels g c =
+    let p = err_from_is_err_and c.from_residual-in_err-list_cells.result c.from_residual-in_err-list_cells.ensures.1 in
+    rw p.1 tt
+
+pub returns-clause-labels : goal.returns-clause-labels
+returns-clause-labels g c =
+    let all = instance (g.A.BaseAir.declaration c.args.air.now) c.args.main.now c.args.public_values.now in
+    labels_rows g.F.Field.ring g.F.PartialEq.eq all c.args.max_failures (g.A.Air.labels c.args.air.now) _ _ _ _
+    c.in_ok-checked.ensures.labels c.in_ok-list_cells.ensures.listed.failures

@@ -4,8 +4,10 @@ use borrow.Author.Count.{below_more, below_none}
 use Rattle.std.proofs.lemmas.Result.{err_from_is_err_and}
 use Rattle.air_report.specs.Checks.{RowsRefuse}
 use Rattle.air_report.specs.Instances.{instance, instance_trace, row_count}
-use Rattle.air_report.specs.Report.{failure_place, report_of, IsReached}
+use Rattle.air_report.specs.Report.{failure_place, report_of, zero_at, IsReached}
 use Rattle.air_report.proofs.GivenUp.{error_is}
+use Rattle.air_report.specs.RowLabels.{LabelledRows}
+use Rattle.air_report.proofs.RowsLabelled.{rows_more}
 use Rattle.air_report.proofs.Reports.{checked_more, count_shown-more, reached_later}
 use Rattle.air_report.proofs.checks.check.check_rows.Goals as goal
 
@@ -17,6 +19,7 @@ rows-init g c =
       count = c.at_no_row-builder.ensures.counter;
       least = below_none (λ k. IsReached c.args.max_failures (length (report_of g.F.Field.ring g.F.PartialEq.eq (instance_trace all) all.air.constraints k)) → ⊥);
       there = λ h. absurd (omega (arith, h));
+      labelled = c.at_no_row-builder.ensures.failures;
     }
 
 pub returns-then-is_reached-clause-checked : goal.returns-then-is_reached-clause-checked
@@ -82,8 +85,28 @@ rows-preserved g c =
     let len : length c.rows.builder.failures.items ≡ length (report_of r eq trace ts row) = sym (length-map c.rows.builder.failures.items failure_place) ∙ ap length inv.places in
     let here : IsReached cap (length (report_of r eq trace ts row)) → ⊥ = λ h. open_cap (subst (λ n. IsReached cap n) (sym len) h) in
     record {
-      places = checked_more r eq all row _ _ _ checked inv.places;
+      places = checked_more (zero_at r eq trace) ts row _ _ _ checked inv.places;
       count = checked.constraints ∙ count_shown-more ts row;
       least = below_more (λ k. IsReached cap (length (report_of r eq trace ts k)) → ⊥) row inv.least here;
       there = λ h. c.in_ok-check_row.ensures.there;
+      labelled = rows_more (g.A.Air.labels c.args.air.now) row _ _ inv.labelled c.in_ok-check_row.ensures.labels;
     }
+
+pub returns-then-is_reached-clause-labels : goal.returns-then-is_reached-clause-labels
+unfolding returns-then-is_reached-clause-checked
+returns-then-is_reached-clause-labels g c = record {
+  checked = returns-then-is_reached-clause-checked g c;
+  labelled = subst (λ v. LabelledRows (g.A.Air.labels c.args.air.now) c.rows.row v.items) (sym c.outcome_of.ensures.failures) c.rows.invariant.labelled;
+}
+
+pub returns-in_err-check_row-clause-labels : goal.returns-in_err-check_row-clause-labels
+returns-in_err-check_row-clause-labels g c =
+    let p = err_from_is_err_and c.from_residual.result c.from_residual.ensures.1 in
+    rw p.1 tt
+
+pub returns-clause-labels : goal.returns-clause-labels
+unfolding returns-clause-checked
+returns-clause-labels g c = record {
+  checked = returns-clause-checked g c;
+  labelled = subst (λ v. LabelledRows (g.A.Air.labels c.args.air.now) c.rows.row v.items) (sym c.outcome_of-2.ensures.failures) c.rows.invariant.labelled;
+}

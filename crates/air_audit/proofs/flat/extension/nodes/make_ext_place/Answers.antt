@@ -1,4 +1,4 @@
-use Rattle.std.proofs.Common.{slice_get, Some, subst, sym, ap, ◌∙◌}
+use Rattle.std.proofs.Common.{slice_get, Some, subst, sym, ap, ◌∙◌, arith}
 use Rattle.std.proofs.lemmas.List.{get_or_default}
 use Rattle.air_builder.specs.Builders.{Means}
 use Rattle.air_builder.specs.laws.Extensions.{over_extension}
@@ -50,7 +50,7 @@ make_ext-requires-clause-usable g c =
     c.requires.table is in
     let h = subst (λ n. EachOperand (λ i. HasNumber (made (term i)) places table i) n) c.in-Add.is all in
     numbers_last g.met.AB.ExtRing.Algebra.laws (over_extension g.met.AB.AirBuilder.laws g.met.AB.ExtensionBuilder.ext_laws) places table c.in-Add.x c.in-Add.y
-    (term c.in-Add.x) (term c.in-Add.y) a h.0 h.1
+    (term c.in-Add.x) (term c.in-Add.y) a (h 0 0 (omega arith)) (h 1 0 (omega arith))
 
 pub make_ext-requires-in-Sub-clause-usable : goal.make_ext-requires-in-Sub-clause-usable
 make_ext-requires-in-Sub-clause-usable g c =
@@ -73,7 +73,7 @@ make_ext-requires-in-Sub-clause-usable g c =
     c.requires.table is in
     let h = subst (λ n. EachOperand (λ i. HasNumber (made (term i)) places table i) n) c.in-Sub.is all in
     numbers_last g.met.AB.ExtRing.Algebra.laws (over_extension g.met.AB.AirBuilder.laws g.met.AB.ExtensionBuilder.ext_laws) places table c.in-Sub.x c.in-Sub.y
-    (term c.in-Sub.x) (term c.in-Sub.y) a h.0 h.1
+    (term c.in-Sub.x) (term c.in-Sub.y) a (h 0 0 (omega arith)) (h 1 0 (omega arith))
 
 pub make_ext-requires-in-Neg-clause-usable : goal.make_ext-requires-in-Neg-clause-usable
 make_ext-requires-in-Neg-clause-usable g c =
@@ -96,7 +96,7 @@ make_ext-requires-in-Neg-clause-usable g c =
     c.requires.table is in
     let h = subst (λ n. EachOperand (λ i. HasNumber (made (term i)) places table i) n) c.in-Neg.is all in
     number_lasts g.met.AB.ExtRing.Algebra.laws (over_extension g.met.AB.AirBuilder.laws g.met.AB.ExtensionBuilder.ext_laws) places table c.in-Neg.x
-    (term c.in-Neg.x) a h
+    (term c.in-Neg.x) a (h 0 0 (omega arith))
 
 pub make_ext-requires-in-Mul-clause-usable : goal.make_ext-requires-in-Mul-clause-usable
 make_ext-requires-in-Mul-clause-usable g c =
@@ -119,4 +119,4 @@ make_ext-requires-in-Mul-clause-usable g c =
     c.requires.table is in
     let h = subst (λ n. EachOperand (λ i. HasNumber (made (term i)) places table i) n) c.in-Mul.is all in
     numbers_last g.met.AB.ExtRing.Algebra.laws (over_extension g.met.AB.AirBuilder.laws g.met.AB.ExtensionBuilder.ext_laws) places table c.in-Mul.x c.in-Mul.y
-    (term c.in-Mul.x) (term c.in-Mul.y) a h.0 h.1
+    (term c.in-Mul.x) (term c.in-Mul.y) a (h 0 0 (omega arith)) (h 1 0 (omega arith))

@@ -11,28 +11,8 @@ returns-in_err-plan-clause-roots g c =
     let p = err_from_is_err_and c.from_residual.result c.from_residual.ensures.1 in
     rw p.1 tt
 
-pub returns-in_err-plan-clause-width : goal.returns-in_err-plan-clause-width
-returns-in_err-plan-clause-width g c =
-    let p = err_from_is_err_and c.from_residual.result c.from_residual.ensures.1 in
-    rw p.1 tt
-
-pub returns-in_err-plan-clause-num_public_values : goal.returns-in_err-plan-clause-num_public_values
-returns-in_err-plan-clause-num_public_values g c =
-    let p = err_from_is_err_and c.from_residual.result c.from_residual.ensures.1 in
-    rw p.1 tt
-
-pub returns-in_err-plan-clause-preprocessed : goal.returns-in_err-plan-clause-preprocessed
-returns-in_err-plan-clause-preprocessed g c =
-    let p = err_from_is_err_and c.from_residual.result c.from_residual.ensures.1 in
-    rw p.1 tt
-
-pub returns-in_err-plan-clause-periodic : goal.returns-in_err-plan-clause-periodic
-returns-in_err-plan-clause-periodic g c =
-    let p = err_from_is_err_and c.from_residual.result c.from_residual.ensures.1 in
-    rw p.1 tt
-
-pub returns-in_err-plan-clause-cells : goal.returns-in_err-plan-clause-cells
-returns-in_err-plan-clause-cells g c =
+pub returns-in_err-plan-clause-beside : goal.returns-in_err-plan-clause-beside
+returns-in_err-plan-clause-beside g c =
     let p = err_from_is_err_and c.from_residual.result c.from_residual.ensures.1 in
     rw p.1 tt
 

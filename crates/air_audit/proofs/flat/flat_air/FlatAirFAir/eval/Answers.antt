@@ -10,6 +10,9 @@ use Rattle.air_builder.specs.Assertion.{Base}
 use Rattle.air_builder.specs.Builders.{Means}
 use Rattle.air_builder.specs.Refusals.{PartOf, EachLeaf}
 use Rattle.air_builder.specs.Batches.{AssertedList, OrMemory}
+use Rattle.air_builder.specs.Labels.{LabelledBy}
+use Rattle.air_builder.specs.laws.LabelGrowth.{none_labelled, list_labelled}
+use Rattle.air_audit.specs.RootLabels.{RootSays}
 use Rattle.air_audit.specs.Plans.{number_at}
 use Rattle.air_audit.specs.Tables.{IsMade, HasAt, AssertsAt}
 use Rattle.air_audit.proofs.Asserting.{each_asserts, made_has, none_asserted, roots_asserted, making_refused}
@@ -26,8 +29,8 @@ none_there : {A : Type 0} (xs : List A) → length xs ≡ 0 → xs ≡ []
 none_there [] e = refl
 none_there (x ∷ xs) e = absurd (omega (arith, e))
 
-pub returns-then-is_empty : goal.returns-then-is_empty
-returns-then-is_empty g c =
+pub returns-then-is_empty-clause-evaluated : goal.returns-then-is_empty-clause-evaluated
+returns-then-is_empty-clause-evaluated g c =
     let A = g.AB.AirBuilder in
     let a = c.args.self.now in
     let b = c.args.builder.now in
@@ -45,8 +48,8 @@ not_none : (n : ℕ) → false ≡ (n == 0) → 0 < n
 not_none zero e = cc
 not_none (suc n) e = omega arith
 
-pub returns-in_err-table : goal.returns-in_err-table
-returns-in_err-table g c =
+pub returns-in_err-table-clause-evaluated : goal.returns-in_err-table-clause-evaluated
+returns-in_err-table-clause-evaluated g c =
     let p = err_from_is_err_and c.from_residual.result c.from_residual.ensures.1 in
     let a = c.args.self.now in
     let term = term_at base_reads a.pool in
@@ -70,8 +73,8 @@ assert_places-requires-clause-of_ring g c =
     let p = get_or plan.places.items k d in
     made_has g.met.AB.Ring.Algebra.laws g.met.AB.AirBuilder.laws b (term (number_at plan.numbers.items p)) c.in_ok-table.table.items p (c.in_ok-table.ensures.made p (c.args.self.now.planned.within k d lt))))
 
-pub returns : goal.returns
-returns g c =
+pub returns-clause-evaluated : goal.returns-clause-evaluated
+returns-clause-evaluated g c =
     let A = g.AB.AirBuilder in
     let a = c.args.self.now in
     let plan = a.plan in
@@ -86,5 +89,36 @@ returns g c =
     let each = subst (λ us. AllZip (AssertsAt means table b) plan.places.items (map (λ t. Base t) us)) same (each_asserts means A.missing b table at plan.places.items made) in
     let there = subst (λ us. All (λ t. EachLeaf (λ l. A.missing c.args.builder.now l → ⊥) t) us) same
     (All-map (EachLeaf (λ l. A.missing c.args.builder.now l → ⊥)) at plan.places.items (λ k d lt. let x = made k d lt in there_before g.met.AB.Ring.Algebra.laws laws c.args.builder.now b (at (get_or plan.places.items k d)) x.0 (laws.by_growth _ _ [] c.make_places.ensures.keeps) x.2)) in
-    let asserted = rw (c.deref.ensures.value, c.deref-2.ensures.value) at c.assert_places.ensures in
+    let asserted = rw (c.deref.ensures.value, c.deref-2.ensures.value) at c.assert_places.ensures.asserted in
     roots_asserted g.met.AB.Ring.Algebra.laws laws c.args.builder.now b c.assert_places.new.builder table plan.places.items (map term a.roots.items) c.assert_places.result c.make_places.ensures.keeps each there asserted
+
+pub returns-then-is_empty-clause-labelled : goal.returns-then-is_empty-clause-labelled
+returns-then-is_empty-clause-labelled g c =
+    let a = c.args.self.now in
+    let b = c.args.builder.now in
+    let none = zero_by_test _ c.if-is_empty.ensures in
+    let short : length a.roots.items ≡ 0 = omega (arith, none) in
+    subst (λ xs. LabelledBy g.AB.NamedAirBuilder.labelled (RootSays a.labels.items) b b (map (λ t. Base t) (map (term_at base_reads a.pool) xs)))
+    (sym (none_there a.roots.items short)) (none_labelled g.met.AB.NamedAirBuilder.named_laws b (g.met.AB.AirBuilder.laws.same b))
+
+pub returns-in_err-table-clause-labelled : goal.returns-in_err-table-clause-labelled
+returns-in_err-table-clause-labelled g c =
+    let p = err_from_is_err_and c.from_residual.result c.from_residual.ensures.1 in
+    rw p.1 tt
+
+pub returns-clause-labelled : goal.returns-clause-labelled
+returns-clause-labelled g c =
+    let A = g.AB.AirBuilder in
+    let a = c.args.self.now in
+    let plan = a.plan in
+    let b = c.make_places.new.builder in
+    let term = term_at base_reads a.pool in
+    let at = λ (q : ℕ). term (number_at plan.numbers.items q) in
+    let means = Means g.AB.Ring.Algebra.means A.ring_of A.reads_as in
+    let same = planned_terms term plan.numbers.items plan.places.items a.roots.items a.planned.stand in
+    let table = c.in_ok-table.table.items in
+    let made : All (λ p. HasAt (IsMade means A.missing b (at p)) table p) plan.places.items = λ k d lt. c.in_ok-table.ensures.made (get_or plan.places.items k d) (a.planned.within k d lt) in
+    let each = subst (λ us. AllZip (AssertsAt means table b) plan.places.items (map (λ t. Base t) us)) same (each_asserts means A.missing b table at plan.places.items made) in
+    let labels = rw (c.deref.ensures.value, c.deref-2.ensures.value, c.deref-3.ensures.value) at c.assert_places.ensures.labels in
+    list_labelled g.met.AB.NamedAirBuilder.named_laws (AssertsAt means table) c.args.builder.now b c.assert_places.new.builder plan.places.items
+    (map (λ t. Base t) (map term a.roots.items)) c.assert_places.result c.make_places.ensures.keeps each labels

@@ -11,8 +11,8 @@ use Rattle.air_author.proofs.constraints.extension.ExtNamedConstraint.assert_und
 pub returns-in_err-x-clause-asserted : goal.returns-in_err-x-clause-asserted
 returns-in_err-x-clause-asserted g c = making_gives_up g.met.AB.AirBuilder.laws _ (inl whole) c.from_residual.ensures.1 c.in_err-x.ensures
 
-pub returns-in_err-x-clause-label : goal.returns-in_err-x-clause-label
-returns-in_err-x-clause-label g c =
+pub returns-in_err-x-clause-labelled : goal.returns-in_err-x-clause-labelled
+returns-in_err-x-clause-labelled g c =
     let p = err_from_is_err_and c.from_residual.result c.from_residual.ensures.1 in
     rw p.1 tt
 
@@ -24,8 +24,8 @@ returns-in_err-x-clause-no_label g c =
 pub returns-clause-asserted : goal.returns-clause-asserted
 returns-clause-asserted g c = made_then_zero g.met.AB.AirBuilder.laws Extension _ _ _ _ c.assert_zero_ext_named.result _ c.in_ok-x.ensures c.assert_zero_ext_named.ensures.asserted (λ h. (h, tt))
 
-pub returns-clause-label : goal.returns-clause-label
-returns-clause-label g c = made_then_labelled g.met.AB.NamedAirBuilder.named_laws Extension _ _ _ _ c.assert_zero_ext_named.result _ c.in_ok-x.ensures c.assert_zero_ext_named.ensures.label
+pub returns-clause-labelled : goal.returns-clause-labelled
+returns-clause-labelled g c = made_then_labelled g.met.AB.NamedAirBuilder.named_laws Extension _ _ _ _ c.assert_zero_ext_named.result _ c.in_ok-x.ensures c.assert_zero_ext_named.ensures.label
 
 pub returns-clause-no_label : goal.returns-clause-no_label
 returns-clause-no_label g c = made_then_refused g.met.AB.NamedAirBuilder.named_laws Extension _ _ _ _ c.assert_zero_ext_named.result _ c.in_ok-x.ensures c.assert_zero_ext_named.ensures.label

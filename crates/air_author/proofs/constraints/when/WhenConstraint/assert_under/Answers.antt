@@ -1,4 +1,7 @@
 use Rattle.air_author.proofs.constraints.when.WhenConstraint.assert_under.Goals as goal
 
-pub returns : goal.returns
-returns g c = c.assert_under.ensures
+pub returns-clause-asserted : goal.returns-clause-asserted
+returns-clause-asserted g c = c.assert_under.ensures.asserted
+
+pub returns-clause-labelled : goal.returns-clause-labelled
+returns-clause-labelled g c = c.assert_under.ensures.labelled

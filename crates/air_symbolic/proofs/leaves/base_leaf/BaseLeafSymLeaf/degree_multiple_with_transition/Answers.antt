@@ -1,5 +1,0 @@
-use Rattle.std.proofs.Common.{refl}
-use Rattle.air_symbolic.proofs.leaves.base_leaf.BaseLeafSymLeaf.degree_multiple_with_transition.Goals as goal
-
-pub returns-in-IsTransition : goal.returns-in-IsTransition
-returns-in-IsTransition g c = rw c.in-IsTransition.is refl
