@@ -7,12 +7,12 @@ use Rattle.air_author.specs.laws.Labels.{one_named, then_named}
 use Rattle.example_fibonacci.specs.Fibonacci.{FibonacciSays}
 use Rattle.example_fibonacci.proofs.FibonacciAir.eval.Goals as goal
 
-module _ {S F : Type 0} {grew : S → S → List (Assertion F) → Type 0} {labelled : S → S → List (Labelled F) → Type 0} where
-  -- a name displays the other of two equal texts too
-  says_too : {a b : S} {s : Assertion F} {x y : List ℕ} → x ≡ y → IsLabelled labelled (λ text. text ≡ Some x) a b s
-      → IsLabelled labelled (λ text. text ≡ Some y) a b s
-  says_too {a} {b} {s} e h = subst (λ v. IsLabelled labelled (λ text. text ≡ Some v) a b s) e h
+-- a name displays the other of two equal texts too
+says_too : {S F : Type 0} {labelled : S → S → List (Labelled F) → Type 0} {a b : S} {s : Assertion F} {x y : List ℕ} → x ≡ y
+    → IsLabelled labelled (λ text. text ≡ Some x) a b s → IsLabelled labelled (λ text. text ≡ Some y) a b s
+says_too {labelled = labelled} {a} {b} {s} e h = subst (λ v. IsLabelled labelled (λ text. text ≡ Some v) a b s) e h
 
+module _ {S F : Type 0} {grew : S → S → List (Assertion F) → Type 0} {labelled : S → S → List (Labelled F) → Type 0} where
   -- five assertions under their labels, one after another
   all_named : (named : NamedLaws grew labelled) (is_named : Bool) {a b c d e f : S} {s t u v w : Assertion F}
       → IsLabelled labelled (FibonacciSays is_named 0) a b s → IsLabelled labelled (FibonacciSays is_named 1) b c t
@@ -34,7 +34,7 @@ pub returns-clause-labelled : goal.returns-clause-labelled
 returns-clause-labelled g c =
     on_ok_weaker c.assert_all.result
     (λ h. all_named g.met.AB.NamedAirBuilder.named_laws c.args.self.now.is_named
-    (says_too c.label-first_a.ensures h.1.1) (says_too c.label-first_b.ensures h.1.2)
-    (says_too c.label-step_a.ensures h.2.1.1) (says_too c.label-step_b.ensures h.2.1.2)
-    (says_too c.label-last_b.ensures h.2.2))
+    (says_too c.label.ensures h.1.1) (says_too c.label-2.ensures h.1.2)
+    (says_too c.label-3.ensures h.2.1.1) (says_too c.label-4.ensures h.2.1.2)
+    (says_too c.label-5.ensures h.2.2))
     c.assert_all.ensures.labelled
