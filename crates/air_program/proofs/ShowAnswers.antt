@@ -12,8 +12,8 @@ use Rattle.air_json.specs.declared.errors.FlatError.{FlatError}
 use Rattle.air_json.specs.declared.errors.FlatError.TheVariants as faults
 use Rattle.air_print.specs.Lines.{ShowsRoots}
 use Rattle.air_object.specs.Members.{labelled_constraints}
-use Rattle.air_object.specs.Parts.{given_by, labelled_with}
-use Rattle.air_object.specs.Readers.{labelled_read}
+use Rattle.air_object.specs.Parts.{given_by}
+use Rattle.air_object.specs.Readers.{labelled_read, labelled_with}
 use Rattle.air_object.specs.Seen.{seen_labelled}
 use Rattle.air_object.specs.laws.Members.{labelled_agree}
 use Rattle.air_object.specs.declared.labelled.Labelled.{Labelled}
