@@ -1,13 +1,14 @@
 -- Failures with their explanations, one after another.
 use Rattle.std.specs.List.{AllZip, flat_map}
 use Rattle.std.specs.Option.{option_to_list}
-use Rattle.std.proofs.Common.{◌≡◌, ℕ, ◌+◌, ◌-◌, ◌<◌, ◌≤◌, List, [], ◌∷◌, ◌++◌, append_assoc, append-nil, length, map, take, get_or, All, Option, Some, None, Bor, codes, refl, sym, ap, subst, ◌∙◌, arith, inl, inr}
+use Rattle.std.proofs.Common.{◌≡◌, ℕ, ◌+◌, ◌-◌, ◌<◌, ◌≤◌, List, [], ◌∷◌, ◌++◌, append_assoc, append-nil, length, map, take, set, get_or, Vec, All, Option, Some, None, Bor, codes, refl, sym, ap, subst, ◌∙◌, arith, inl, inr, ⊎_elim, length-set}
 use Rattle.std.specs.Prelude.{slice_get}
 use Rattle.std.specs.Slice.{IsItemAt}
 use Rattle.std.proofs.lemmas.Grind.{flat_map-append}
-use Rattle.std.proofs.lemmas.List.{map-append, take_more}
+use Rattle.std.proofs.lemmas.Bool.{cases_eq}
+use Rattle.std.proofs.lemmas.List.{map-append, take_more, get_or-set_same, get_or-set_other}
 use Rattle.std.proofs.lemmas.List.Elements.{All-nil, All-cons, All-append}
-use Rattle.std.proofs.lemmas.Option.{slice_get_cases, slice_get_read, slice_get_past}
+use Rattle.std.proofs.lemmas.Option.{slice_get_within, slice_get_cases, slice_get_read, slice_get_past}
 use Rattle.air_field.specs.Assignment.{Trace, row_assignment}
 use Rattle.air_field.specs.Modular.{Modular, modular_ring}
 use Rattle.air_field.specs.Ring.{CommRing}
@@ -17,6 +18,7 @@ use Rattle.air_symbolic.specs.BaseLeaves.{base_leaves}
 use Rattle.air_symbolic.specs.ExtLeaves.{BaseNodes}
 use Rattle.air_symbolic.specs.Leaves.{Leaves}
 use Rattle.air_symbolic.specs.Reach.{Marked}
+use Rattle.air_symbolic.specs.declared.leaves.base_leaf.BaseLeaf.{BaseLeaf}
 use Rattle.air_symbolic.specs.declared.pools.expr.SymbolicExpr.{SymbolicExpr}
 use Rattle.air_print.specs.Names.{AreNames, is_named}
 use Rattle.air_print.specs.Explained.{Explains, explained_lines, reached_definitions}
@@ -25,7 +27,7 @@ use Rattle.air_print.specs.Values.{AreClosed}
 use Rattle.air_print.specs.laws.Values.{explains_known, passing_low}
 use Rattle.air_report.specs.FailureTexts.{seen_failure}
 use Rattle.air_report.specs.declared.debug.failure.ConstraintFailure.{ConstraintFailure}
-use Rattle.air_program.specs.AtHand.{KnownAt}
+use Rattle.air_program.specs.AtHand.{KnownAt, AreKept}
 use Rattle.air_program.specs.Explained.{Failure, StandsBelow, IsExplained, IsExplainedText, PushesExplained, PushesNames, failing_roots, cell_lines}
 use Rattle.air_program.specs.Texts.{Found, count_lines, place_of, IsFailureLine, PushesLine}
 use Rattle.air_print.specs.Lines.{lines_text}
@@ -170,3 +172,31 @@ text_explained m pool roots cells trace names f counts front text are counted na
       failing = named.failing;
       explains = subst (λ (t : List ℕ). PushesExplained m pool roots cells trace names.1 f.failures t text) pieces rest;
     }
+
+-- ---- what roots read
+
+module _ {F Y : Type 0} (ns : List (SymbolicExpr (BaseLeaf F))) (roots : List ℕ) where
+  -- nothing is kept
+  pub AreKept-none : (kept : List (Option (Vec ℕ Y))) → length kept ≡ length roots → ((i : ℕ) → get_or kept i None ≡ None) → AreKept ns roots kept
+  AreKept-none kept places none = record {
+    places = places;
+    reads = λ i root read at e. absurd (none_some read (sym (none i) ∙ e));
+  }
+    where
+      none_some : (read : Vec ℕ Y) → None ≡ Some read → ⊥
+      none_some read e = cc
+
+  -- there is an entry for each root
+  pub kept-here : (kept : List (Option (Vec ℕ Y))) (k root : ℕ) → slice_get roots k ≡ Some root → AreKept ns roots kept → k < length kept
+  kept-here kept k root at h = let here = slice_get_within roots k root at in let places = h.places in omega (arith, here, places)
+
+  -- an entry is set
+  pub AreKept-set : (kept : List (Option (Vec ℕ Y))) (k : ℕ) (entry : Option (Vec ℕ Y)) → k < length kept → ((root : ℕ) (read : Vec ℕ Y) → slice_get roots k ≡ Some root → entry ≡ Some read → Reads ns root read.items) → AreKept ns roots kept → AreKept ns roots (set kept k entry)
+  AreKept-set kept k entry lt one h = record {
+    places = length-set kept k entry ∙ h.places;
+    reads = λ i root read at e.
+    ⊎_elim
+    (λ (is : i ≡ k). one root read (ap (slice_get roots) (sym is) ∙ at) (sym (get_or-set_same kept k entry None lt) ∙ (ap (λ j. get_or (set kept k entry) j None) (sym is) ∙ e)))
+    (λ (apart : i ≡ k → ⊥). h.reads i root read at (sym (get_or-set_other kept k i entry None apart) ∙ e))
+    (cases_eq i k);
+  }

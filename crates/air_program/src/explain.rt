@@ -1,17 +1,18 @@
 //! The answer to the word `explain`: the findings of the audit of a JSON object, with an explanation below each
 //! failure.
 
-ghost use Rattle.std.specs.Prelude.{◌≡◌, ◌<◌, ◌≤◌, ◌-◌, ◌++◌, ◌∷◌, [], length, map, All, IfOk, IfSome, OnOk, slice_get, string_bytes};
+ghost use Rattle.std.specs.Prelude.{◌≡◌, ◌<◌, ◌≤◌, ◌-◌, ◌++◌, ◌∷◌, [], ℕ, length, map, All, None, Some, IfOk, IfSome, OnOk, slice_get, slice_index_or, string_bytes};
 ghost use Rattle.air_field.specs.Assignment.{row_assignment};
 ghost use Rattle.air_symbolic.specs.BaseLeaves.{base_leaves};
 ghost use Rattle.air_symbolic.specs.Reach.{Marked};
 ghost use Rattle.air_print.specs.Lines.{lines_text};
 ghost use Rattle.air_print.specs.Names.{AreNames};
+ghost use Rattle.air_print.specs.Reading.{Reads};
 ghost use Rattle.air_print.specs.Rows.{trace_of};
 ghost use Rattle.air_print.specs.Values.{AreClosed};
 ghost use Rattle.air_report.specs.FailureTexts.{seen_failure};
 ghost use Rattle.air_object.specs.Parts.{InPool};
-ghost use Rattle.air_program.specs.AtHand.{KnownAt};
+ghost use Rattle.air_program.specs.AtHand.{KnownAt, AreKept};
 ghost use Rattle.air_program.specs.ByField.{AnswersParts};
 ghost use Rattle.air_program.specs.Explained.{failing_roots, cell_lines, PushesNames, PushesExplained, ExplainsInput, ExplainedIn};
 ghost use Rattle.air_program.specs.FlatAnswer.{input_of};
@@ -63,6 +64,40 @@ fn at_row<F: PrimeField64>(
     Ok(RowValues { row, values })
 }
 
+// A list of `places` entries, all unset.
+fn no_reads<F: PrimeField64>(
+    alloc: Global,
+    places: usize,
+) -> Result<Vec<Option<Vec<BaseId<F>>>>, AllocError>
+    ensures places { IfOk result (λ kept. length kept.items ≡ places) }
+    ensures none { IfOk result (λ kept. (i : ℕ) → slice_index_or kept.items i None ≡ None) }
+{
+    let mut kept = Vec::with_capacity(alloc, places)?;
+    for _place in 0..places {
+        kept.push(None)?;
+    }
+    Ok(kept)
+}
+
+// What the root of a constraint reads: the list that was kept, which is taken, or otherwise a new one.
+fn take_reads<F: PrimeField64>(
+    alloc: Global,
+    air: &FlatAir<F>,
+    kept: &mut [Option<Vec<BaseId<F>>>],
+    constraint: usize,
+    root: BaseId<F>,
+) -> Result<Vec<BaseId<F>>, AllocError>
+    requires root { slice_get air.now.roots.items constraint ≡ Some root }
+    requires kept { AreKept air.now.pool.nodes air.now.roots.items kept.old }
+    ensures reads { IfOk result (λ read. Reads air.now.pool.nodes root read.items) }
+    ensures kept { AreKept air.now.pool.nodes air.now.roots.items kept.new }
+{
+    match kept[constraint].take() {
+        Some(read) => Ok(read),
+        None => reads(alloc, &air.pool, root),
+    }
+}
+
 // The roots of the failures' constraints.
 fn failing_roots<F: PrimeField64>(
     alloc: Global,
@@ -100,7 +135,8 @@ fn push_cell_below<F: PrimeField64>(
     }
 }
 
-// Appends a failure and its explanation. Answers the values to cache for the next failure.
+// Appends a failure and its explanation. Answers the values to cache for the next failure, and keeps what the
+// constraint's root reads.
 fn push_explained_failure<F: PrimeField64>(
     alloc: Global,
     text: &mut String,
@@ -109,17 +145,20 @@ fn push_explained_failure<F: PrimeField64>(
     marks: &[Option<BaseId<F>>],
     trace: &TraceRows<'_, F>,
     at_hand: Option<RowValues<F>>,
+    kept: &mut [Option<Vec<BaseId<F>>>],
     failure: &ConstraintFailure,
 ) -> Result<Option<RowValues<F>>, AllocError>
     requires marks { AreClosed air.now.pool.nodes marks.now }
     requires roots { All (λ i. Marked marks.now i) air.now.roots.items }
     requires known { IfSome at_hand
         (KnownAt F.ring (trace_of trace.now) air.now.pool.nodes marks.now) }
+    requires kept { AreKept air.now.pool.nodes air.now.roots.items kept.old }
     ensures pushes { OnOk result (PushesExplained F.residues air.now.pool air.now.roots.items
         air.now.beside.cells.items (trace_of trace.now) names.now.1 (seen_failure failure.now ∷ [])
         (string_bytes text.old) (string_bytes text.new)) }
     ensures known { IfOk result (λ at. IfSome at
         (KnownAt F.ring (trace_of trace.now) air.now.pool.nodes marks.now)) }
+    ensures kept { OnOk result (AreKept air.now.pool.nodes air.now.roots.items kept.new) }
 {
     push_failure(alloc, text, failure)?;
     let Some(root) = air.roots.get(failure.constraint) else {
@@ -130,8 +169,9 @@ fn push_explained_failure<F: PrimeField64>(
         return Ok(at_hand);
     }
     let at = at_row(alloc, &air.pool, marks, trace, at_hand, failure.row)?;
-    let read = reads(alloc, &air.pool, *root)?;
+    let read = take_reads(alloc, air, kept, failure.constraint, *root)?;
     push_explained(alloc, text, &air.pool, names, &at.values, *root, &read)?;
+    kept[failure.constraint] = Some(read);
     Ok(Some(at))
 }
 
@@ -151,9 +191,12 @@ fn push_failures<F: PrimeField64>(
     let Ok(marks) = reached_nodes(alloc, &air.pool, &air.roots) else {
         return Err(AllocError);
     };
+    let mut kept = no_reads(alloc, air.roots.len())?;
     let mut at_hand = None;
     for failure in failures {
-        at_hand = push_explained_failure(alloc, text, air, names, &marks, trace, at_hand, failure)?;
+        at_hand = push_explained_failure(
+            alloc, text, air, names, &marks, trace, at_hand, &mut kept, failure,
+        )?;
     }
     Ok(())
 }

@@ -32,7 +32,7 @@ pub push_explained-requires-clause-reads : goal.push_explained-requires-clause-r
 push_explained-requires-clause-reads g c =
     let ns = c.args.air.now.pool.nodes in
     subst (λ (xs : List ℕ). All (λ i. i < length ns) xs) (sym c.deref-3.ensures.value)
-    (reads_here ns c.in-Some.root.now c.in_ok-read.read.items c.in_ok-read.ensures)
+    (reads_here ns c.in-Some.root.now c.in_ok-read.read.items c.in_ok-read.ensures.reads)
 
 pub returns-clause-pushes : goal.returns-clause-pushes
 returns-clause-pushes g c =
@@ -50,6 +50,10 @@ returns-clause-pushes g c =
     c.requires.marks c.in_ok-at.ensures.known c.in_ok-at.ensures.row
     (item_has (λ i. i < length ns) air.roots.items k c.in-Some.root there air.roots_in.here)
     (item_has (λ i. Marked c.args.marks.now i) air.roots.items k c.in-Some.root there c.requires.roots)
-    (subst (λ (xs : List ℕ). Reads ns root xs) (sym c.deref-3.ensures.value) c.in_ok-read.ensures)
+    (subst (λ (xs : List ℕ). Reads ns root xs) (sym c.deref-3.ensures.value) c.in_ok-read.ensures.reads)
     c.in_ok-push_failure.ensures
     (subst (λ (values : List _). string_bytes c.push_explained.new.text ≡ string_bytes c.push_failure.new.text ++ lines_text (explained_lines m air.pool c.args.names.now.1 (λ i. get_or values i r.zero) root read)) c.deref-2.ensures.value c.in_ok-push_explained.ensures)
+
+-- not checked yet
+pub returns-clause-kept : goal.returns-clause-kept
+returns-clause-kept g c = ?

@@ -12,4 +12,5 @@ loop-failure-preserved g c =
     record {
       pushes = explained-more g.F.PrimeField64.residues air.pool air.roots.items air.beside.cells.items trace c.args.names.now.1 c.args.failures.now c.loop-failure.failure-index c.failure-item.result (string_bytes c.args.text.now) (string_bytes c.loop-failure.text) (string_bytes c.push_explained_failure.new.text) c.loop-failure-test.true c.failure-item.is c.loop-failure.invariant.pushes c.in_ok-at_hand.ensures.pushes;
       known = subst (λ (marks : List (Option ℕ)). IfSome c.in_ok-at_hand.at_hand (KnownAt g.F.Field.ring trace air.pool.nodes marks)) c.deref-in-loop-failure.ensures.value c.in_ok-at_hand.ensures.known;
+      kept = ?;
     }
