@@ -2,6 +2,7 @@ pub mod Fields
 pub mod Objects
 pub mod Members
 pub mod Readers
+pub mod Gained
 pub mod Input
 pub mod Seen
 pub mod Begun
