@@ -1,18 +1,25 @@
 -- Lists that are pushed one after another.
-use Rattle.std.proofs.Common.{◌≡◌, ◌+◌, ℕ, suc, List, [], ◌++◌, Result, Ok, Err, OnOk, sym, ◌∙◌, ap, append_assoc, arith}
-use Rattle.std.specs.Bool.{if◌then◌else◌}
-use Rattle.std.specs.Prelude.{is_ok}
+use Rattle.std.proofs.Common.{◌≡◌, ◌+◌, ◌/◌, ◌%◌, ℕ, suc, List, [], ◌∷◌, ◌++◌, map, Result, Ok, Err, OnOk, sym, ◌∙◌, ap, append_assoc, arith}
 use Rattle.std.proofs.lemmas.List.{append-nil}
+use Rattle.air_field.specs.Ring.{CommRing, image}
 use Rattle.air_author.specs.Constraints.{asserts_of_first}
+use Rattle.air_gadgets.specs.Bits.{digits_of}
+
+module _ {F : Type 0} (R : CommRing F) where
+  -- the list so far and the remaining bits
+  abbrev pub with_bits : List F → ℕ → ℕ → List F
+  with_bits xs k n = xs ++ map (image R) (digits_of 2 k n)
+
+  -- one more bit is pushed
+  pub bit_pushed : (xs : List F) (k j n : ℕ) → k ≡ suc j → with_bits (xs ++ image R (n % 2) ∷ []) j (n / 2) ≡ with_bits xs k n
+  bit_pushed xs k j n e = append_assoc xs (image R (n % 2) ∷ []) (map (image R) (digits_of 2 j (n / 2))) ∙ ap (λ i. with_bits xs i n) (sym e)
+
+  pub bits_done : (xs : List F) (k n : ℕ) → k ≡ 0 → with_bits xs k n ≡ xs
+  bits_done xs k n e = ap (λ i. with_bits xs i n) e ∙ append-nil xs
 
 pub on_ok : {A E : Type 0} (r : Result A E) {P Q : Type 0} → (P → Q) → OnOk r P → OnOk r Q
 on_ok (Ok x) f h = f h
 on_ok (Err e) f h = tt
-
--- a list is appended where the call succeeds
-pub appended : {A E X : Type 0} (r : Result X E) (new old xs ys : List A) → new ≡ (if is_ok r then old ++ xs else old) → xs ≡ ys → OnOk r (new ≡ old ++ ys)
-appended (Ok x) new old xs ys e f = e ∙ ap (λ l. old ++ l) f
-appended (Err x) new old xs ys e f = tt
 
 -- a fact that holds in any case
 pub on_any : {A E : Type 0} (r : Result A E) {P : Type 0} → P → OnOk r P

@@ -4,7 +4,6 @@ ghost use Rattle.air_author.specs.Constraints.{asserts_of_first};
 ghost use Rattle.air_blake3.specs.Values.{bit_values, four_bits, limb_values, output_values, quarter_values, state_values};
 
 use air_field::Field;
-use air_gadgets::utils::u32_to_bits_le;
 use blake3::{Quarter, State};
 use std::alloc::AllocError;
 
@@ -15,8 +14,12 @@ pub(crate) type Pushed<T = ()> = Result<T, AllocError>;
 pub(crate) fn push_bits<F: Field>(values: &mut Vec<F>, word: u32) -> Pushed
     ensures { OnOk result (values.new.items ≡ values.old.items ++ bit_values F.ring word) }
 {
-    let bits = u32_to_bits_le::<F>(word);
-    values.extend_from_slice(&bits)
+    let mut rest = word;
+    for done in 0u32..32 {
+        values.push(F::from_bool(rest % 2 == 1))?;
+        rest = rest / 2;
+    }
+    Ok(())
 }
 
 /// Pushes the limbs of a word, the lower first.

@@ -17,8 +17,9 @@ use air_field::{DomainExtension, Field};
 /// at most twice as many challenges pass as there are rows (clause `tables`). In general, if the multiplicities of some
 /// value don't sum to zero over all rows, no more challenges pass than there are entries of other values (`traces`).
 /// The clause `tuples` counts pairs of challenges for tuples that are looked up by their fingerprints. The others are
-/// about values that other challenges make (`beside`, `collide`), several entries under one constraint (`gadgets`, `groups`), several traces (`buses`, `exposed`), and lists of values without a trace
-/// (`balance`, `lookups`, `multisets`, `products`).
+/// about values that other challenges make (`beside`, `collide`), several entries under one constraint (`gadgets`,
+/// `groups`), several traces (`buses`, `exposed`), and lists of values without a trace (`balance`, `lookups`,
+/// `multisets`, `products`).
 ///
 /// The challenges are elements of an extension that is a field. Clauses that count how often a value is looked up need
 /// fewer lookups than the characteristic: `tables`, `tuples`, `lookups` and `multisets`.

@@ -1,12 +1,13 @@
 -- The answer to the input that a JSON value spells, step by step. Below, `tells` relates an input and its audit to its answer.
-use Rattle.std.proofs.Common.{◌≡◌, ◌≢◌, ◌⊎◌, ℕ, List, refl, ap, inl, inr}
+use Rattle.std.proofs.Common.{◌≡◌, ◌≢◌, ◌⊎◌, ℕ, List, Vec, String, Global, refl, ap, inl, inr}
 use Rattle.serde_json.specs.Data.{Data}
 use Rattle.air_field.specs.Modular.{Modular}
 use Rattle.air_object.specs.declared.input.FlatInput.{FlatInput}
 use Rattle.air_core.specs.declared.errors.AirError.{AirError}
 use Rattle.air_core.specs.declared.errors.AirError.TheVariants.{Memory}
 use Rattle.air_audit.specs.declared.audit.Audit.{Audit}
-use Rattle.air_audit.specs.declared.flat.flat_air.FlatAir.{FlatAir}
+use Rattle.air_symbolic.specs.ExtLeaves.{BaseNodes}
+use Rattle.air_builder.specs.declared.airs.beside.Beside.{Beside}
 use Rattle.air_program.specs.FlatAnswer.{input_of, RefusesValue, AnswersAudit}
 use Rattle.air_program.specs.Refusals.{name_of, refusal_text, air_refusal}
 use Rattle.air_program.specs.declared.refusals.Refusal.{Refusal}
@@ -32,6 +33,8 @@ module _ {F : Type 0} {order : ℕ} (m : Modular F order) (tells : FlatInput F �
     | inr other ↦ inr (λ d h. named d e (refuses other.0 d h) other.1)
   ]
 
--- an AIR with what an input has, and the input's trial, are the input
-pub input_made : {F : Type 0} (input : FlatInput F) (air : FlatAir F) → air.pool ≡ input.constraints.pool → air.roots ≡ input.constraints.roots → air.labels ≡ input.constraints.labels → air.beside ≡ input.beside → input_of air input.trial ≡ input
-input_made input air pool roots labels beside = rw (pool, roots, labels, beside) refl
+-- what an input has, and the input's trial, are the input
+pub input_made : {F : Type 0} (input : FlatInput F) {pool : BaseNodes F} {roots : Vec ℕ Global} {labels : Vec (String Global) Global} {beside : Beside F}
+    → pool ≡ input.constraints.pool → roots ≡ input.constraints.roots → labels ≡ input.constraints.labels → beside ≡ input.beside
+    → input_of pool roots labels beside input.trial ≡ input
+input_made input is_pool are_roots are_labels is_beside = rw (is_pool, are_roots, are_labels, is_beside) refl

@@ -1,13 +1,15 @@
 -- The audit of an input that is a JSON object, and the answer to the word `flat`.
-use Rattle.std.specs.Prelude.{◌⊎◌, ℕ, List}
+use Rattle.std.specs.Prelude.{◌⊎◌, ℕ, List, Vec, String}
+use Rattle.std.specs.Global.{Global}
 use Rattle.serde_json.specs.Data.{Data}
 use Rattle.air_field.specs.Modular.{Modular}
 use Rattle.air_core.specs.declared.errors.AirError.{AirError}
+use Rattle.air_symbolic.specs.ExtLeaves.{BaseNodes}
 use Rattle.air_builder.specs.Declaration.{declaration_of}
+use Rattle.air_builder.specs.declared.airs.beside.Beside.{Beside}
 use Rattle.air_audit.specs.FlatAirs.{zero_at_roots}
 use Rattle.air_audit.specs.Theorem.{Instance, instance}
 use Rattle.air_audit.specs.declared.audit.Audit.{Audit}
-use Rattle.air_audit.specs.declared.flat.flat_air.FlatAir.{FlatAir}
 use Rattle.air_object.specs.Input.{SpellsInput, HasInputFault}
 use Rattle.air_object.specs.declared.input.FlatInput.{FlatInput}
 use Rattle.air_object.specs.declared.input.Trial.{Trial}
@@ -15,11 +17,11 @@ use Rattle.air_program.specs.Answer.{IsCappedAudit, CappedAuditRefuses}
 use Rattle.air_program.specs.Refusals.{AnswersRefusal, air_name}
 use Rattle.air_program.specs.Texts.{TellsFound}
 
--- an AIR and what it is audited on, as the input that they are made of
-abbrev pub input_of : {F : Type 0} → FlatAir F → Trial F → FlatInput F
-input_of air trial = record {
-  constraints = record { pool = air.pool; roots = air.roots; labels = air.labels };
-  beside = air.beside;
+-- an AIR's parts and what it is audited on, as the input that they are made of
+abbrev pub input_of : {F : Type 0} → BaseNodes F → Vec ℕ Global → Vec (String Global) Global → Beside F → Trial F → FlatInput F
+input_of pool roots labels beside trial = record {
+  constraints = record { pool = pool; roots = roots; labels = labels };
+  beside = beside;
   trial = trial;
 }
 

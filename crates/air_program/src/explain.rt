@@ -183,7 +183,8 @@ fn explained_text<F: PrimeField64>(
     audited: &Audited<F>,
 ) -> Result<String, AllocError>
     ensures { IfOk result (λ text. ExplainsInput F.residues
-        (input_of audited.now.air audited.now.trial) audited.now.audit (string_bytes text)) }
+        (input_of audited.now.air.pool audited.now.air.roots audited.now.air.labels
+        audited.now.air.beside audited.now.trial) audited.now.audit (string_bytes text)) }
 {
     let Audited { air, trial, audit } = audited;
     let trace = TraceRows {

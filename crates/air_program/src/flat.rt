@@ -32,7 +32,8 @@ pub(crate) fn audit_object<F: PrimeField64 + 'static>(
 ) -> Result<Audited<F>, AirError>
     requires { InPool parts.constraints }
     ensures audited { IfOk result (λ a. (d : Data) → HasParts F.residues parts d
-        → AuditsValue F.residues d (input_of a.air a.trial) a.audit) }
+        → AuditsValue F.residues d (input_of a.air.pool a.air.roots a.air.labels
+        a.air.beside a.trial) a.audit) }
     ensures refused { IfErr result (λ e. e ≢ AirError.Memory → (d : Data)
         → HasParts F.residues parts d → RefusesValue F.residues d e) }
 {

@@ -2,6 +2,7 @@
 
 ghost use Rattle.std.specs.Prelude.{◌≡◌, ◌≢◌, ◌↔◌, false, is_some, IfSome, IsTrue};
 ghost use Rattle.std.specs.IoError.{error_kind};
+ghost use Rattle.std.specs.declared.io.ErrorKind.TheVariants.{Interrupted};
 ghost use Rattle.std.specs.Option.{ForSome};
 
 use crate::stream::{Sink, Source, StreamFault};
@@ -9,7 +10,7 @@ use std::io::{Error, ErrorKind, Read, Write};
 
 // Whether a signal interrupted the call.
 fn is_interrupted(error: &Error) -> bool
-    ensures { IsTrue result ↔ (error_kind error.now ≡ ErrorKind.Interrupted) }
+    ensures { IsTrue result ↔ (error_kind error.now ≡ Interrupted) }
 {
     error.kind() == ErrorKind::Interrupted
 }
@@ -20,7 +21,7 @@ pub struct ReadSource<R> {
     inner: R,
     fault: Option<Error>,
     // An interrupted read is no fault: it is repeated.
-    ghost repeats: { ForSome fault (λ e. error_kind e ≢ ErrorKind.Interrupted) },
+    ghost repeats: { ForSome fault (λ e. error_kind e ≢ Interrupted) },
 }
 
 impl<R: Read> ReadSource<R> {
@@ -35,7 +36,7 @@ impl<R: Read> ReadSource<R> {
     /// The error of the read that failed. It is no interruption by a signal, since such a read is repeated.
     pub fn fault(&self) -> Option<Error>
         ensures some { is_some result ≡ ⟦<ReadSource<R> as Source>⟧.has_failed self.now }
-        ensures repeats { IfSome result (λ e. error_kind e ≢ ErrorKind.Interrupted) }
+        ensures repeats { IfSome result (λ e. error_kind e ≢ Interrupted) }
     {
         self.fault
     }

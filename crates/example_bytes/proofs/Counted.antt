@@ -26,10 +26,14 @@ module _ {F E : Type 0} (r : CommRing F) (a : AlgebraOver F E) (eq : F → F →
     not_last i true lt e = let same : i + 1 ≡ length trace.rows = e refl in absurd (omega (arith, lt, same))
     not_last i false lt e = refl
 
+    -- under a selector that is one, a term is zero
+    zero_under_one : (y x : F) → y ≡ r.one → r.mul y x ≡ r.zero → x ≡ r.zero
+    zero_under_one y x is h = zero_of_one r x y is (r.mul_comm x y ∙ h)
+
     counted : (n : ℕ) → n < length trace.rows → entry n ≡ image r n
     counted zero lt =
         let zeros = all_zero (permuted_zero r a eq ext_eq (bytes_instance r trace) q) (bytes r) (length trace.rows) lists.nothing 0 lt in
-        zero_of_one r (entry 0) r.one refl ((decides _ r.zero).0 zeros.0) ∙ sym (image-zero r)
+        zero_under_one r.one (entry 0) refl ((decides _ r.zero).0 zeros.0) ∙ sym (image-zero r)
     counted (suc i) lt =
         let before : i < length trace.rows = omega (arith, lt) in
         let zeros = all_zero (permuted_zero r a eq ext_eq (bytes_instance r trace) q) (bytes r) (length trace.rows) lists.nothing i before in
@@ -39,7 +43,7 @@ module _ {F E : Type 0} (r : CommRing F) (a : AlgebraOver F E) (eq : F → F →
         ap (λ j. slice_index_or (row_or_none (slice_get trace.rows j)) 1 r.zero) (mod-eq_of_lt low ∙ up) in
         sym next
         ∙ (equal_of_minus r _ (r.add (entry i) r.one)
-        (zero_of_one r _ _ (not_last i (i + 1 == length trace.rows) lt (eqb-true (i + 1) (length trace.rows))) ((decides _ r.zero).0 zeros.1.0))
+        (zero_under_one _ _ (not_last i (i + 1 == length trace.rows) lt (eqb-true (i + 1) (length trace.rows))) ((decides _ r.zero).0 zeros.1.0))
         ∙ (ap (λ x. r.add x r.one) (counted i before) ∙ sym (image-suc r i)))
 
   pub bytes_are_sound : (p : ℕ) → TablesAreSound r a eq ext_eq p → BytesAreSound r a eq ext_eq p trace

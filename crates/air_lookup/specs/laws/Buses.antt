@@ -5,7 +5,7 @@ use Rattle.air_field.specs.Domain.{IsDomain}
 use Rattle.air_field.specs.Ring.{CommRing, AlgebraOver, AlgebraOverLaws}
 use Rattle.air_field.specs.laws.Distinct.{AtMost-weaker}
 use Rattle.air_report.specs.Instances.{row_count}
-use Rattle.air_lookup.specs.Balance.{SumsTo}
+use Rattle.air_lookup.specs.Balance.{SumsTo, Balances}
 use Rattle.air_lookup.specs.Buses.{Bus, AreBuses, bus_entries, all_bus_entries, bus_terms, exposed_of, ExposeSum, BusesAreExposed, FewBusesPass}
 use Rattle.air_lookup.specs.Theorem.{challenge_of}
 use Rattle.air_lookup.specs.laws.Balance.{few_balance}
@@ -35,4 +35,5 @@ module _ {F E : Type 0} (r : CommRing F) (a : AlgebraOver F E) (eq : F → F →
 
   pub few_buses_pass : IsDomain a.ring → FewBusesPass r a eq ext_eq
   few_buses_pass domain bs are v other =
-      AtMost-weaker (λ alpha h. all_sum bs are alpha a.ring.zero h) (few_balance a.ring ext_eq v decides domain (all_bus_entries r a bs) other)
+      AtMost-weaker {P = λ alpha. Balances a.ring alpha (all_bus_entries r a bs)} {Q = λ alpha. ExposeSum r a eq ext_eq bs alpha a.ring.zero}
+      (λ alpha h. all_sum bs are alpha a.ring.zero h) (few_balance a.ring ext_eq v decides domain (all_bus_entries r a bs) other)

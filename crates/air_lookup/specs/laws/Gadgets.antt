@@ -16,7 +16,7 @@ use Rattle.air_lookup.specs.Columns.{Interaction, ExtVanish, entries_at, AreRows
 use Rattle.air_lookup.specs.Gadgets.{groups_with, FewGadgetsPass}
 use Rattle.air_lookup.specs.Groups.{denominator, numerator, AreGroupShares, GroupsBalance, denominator_term, numerator_term, gadget_terms, groups_from}
 use Rattle.air_lookup.specs.Theorem.{challenge_of}
-use Rattle.air_lookup.specs.Tuples.{AllAvoid, only_challenges, leaves_with, AgreeBut}
+use Rattle.air_lookup.specs.Tuples.{AllAvoid, only_challenges, leaves_with, AgreeBut, PassesBeside}
 use Rattle.air_lookup.specs.laws.Columns.{equal_of_minus, zero_of_one}
 use Rattle.air_lookup.specs.laws.Groups.{few_groups_balance}
 use Rattle.air_lookup.specs.laws.Traces.{leaves, part_vanishes, are_rows}
@@ -100,7 +100,7 @@ module _ {F E : Type 0} (r : CommRing F) (a : AlgebraOver F E) (eq : F → F →
   pub few_gadgets_pass : IsDomain a.ring → FewGadgetsPass r a eq ext_eq
   few_gadgets_pass domain g k c xs avoid has challenges v other =
       let gs = groups_with r a g challenges xs in
-      AtMost-weaker
+      AtMost-weaker {P = λ alpha. GroupsBalance a.ring alpha gs} {Q = λ alpha. PassesBeside r a eq ext_eq g c challenges alpha}
       (λ alpha h.
       let q = h.permutation in
       let balance = gadget_balances r a laws k c xs (row_count g) (challenge_of a q c) (leaves r a g q) (are_rows r a laws g q c h.lists.height)

@@ -22,7 +22,7 @@ module _ {F E : Type 0} (r : CommRing F) (a : AlgebraOver F E) (laws : AlgebraOv
 
   rows_are : (g : Instance F) (looked_up offered multiplicity : Term F) (n : ℕ)
       → trace_entries r a g (table_lookup r looked_up offered multiplicity) n ≡ row_entries a.ring (over g looked_up) (over g offered) (over g multiplicity) n
-  unfolding entry, row_list
+  unfolding entry row_list
   rows_are g looked_up offered multiplicity zero = refl
   rows_are g looked_up offered multiplicity (suc n) =
       ap₂ (λ es fs. es ++ fs) (rows_are g looked_up offered multiplicity n)

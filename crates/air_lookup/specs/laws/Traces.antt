@@ -17,7 +17,7 @@ use Rattle.air_report.specs.laws.Over.{base_embedded}
 use Rattle.air_report.specs.laws.VanishingReports.{EachZero, all_zero}
 use Rattle.air_lookup.specs.Balance.{Entry, Balances}
 use Rattle.air_lookup.specs.Columns.{Interaction, Places, lookup_terms, ExtVanish, entries_at, entries_below, AreRows, AreBase, Includes}
-use Rattle.air_lookup.specs.Theorem.{trace_entries, on_row, ListsNothing, challenge_of, FewChallengesPass}
+use Rattle.air_lookup.specs.Theorem.{trace_entries, on_row, ListsNothing, challenge_of, PassesAt, FewChallengesPass}
 use Rattle.air_lookup.specs.laws.Balance.{few_balance}
 use Rattle.air_lookup.specs.laws.Columns.{rows_balance}
 
@@ -100,7 +100,7 @@ module _ {F E : Type 0} (r : CommRing F) (a : AlgebraOver F E) (eq : F → F →
   pub few_challenges_pass : IsDomain a.ring → FewChallengesPass r a eq ext_eq
   few_challenges_pass domain g p xs base has v other =
       let es = trace_entries r a g xs (row_count g) in
-      AtMost-weaker
+      AtMost-weaker {P = λ alpha. Balances a.ring alpha es} {Q = λ alpha. PassesAt r a eq ext_eq g p.challenge alpha}
       (λ alpha h. subst (λ x. Balances a.ring x es) h.challenge_is
       (subst (Balances a.ring (challenge_of a h.permutation p.challenge)) (below_entries r a laws g h.permutation xs base (row_count g))
       (lookup_balances g p xs has h.permutation h.lists)))

@@ -83,7 +83,7 @@ module _ {F E : Type 0} (r : CommRing F) (a : AlgebraOver F E) (laws : AlgebraOv
 
     rows_are : (q : PermutationTrace E) → AllBase looked_up → AllBase offered → IsBase multiplicity → (n : ℕ)
         → entries_below a (leaves r a g q) (tuple_lookup r d looked_up offered multiplicity) n ≡ rows (challenge_of a q d) n
-    unfolding entry, pair
+    unfolding entry pair
     rows_are q base_looked base_offered base zero = refl
     rows_are q base_looked base_offered base (suc n) =
         let s = leaves r a g q n in
@@ -133,8 +133,11 @@ module _ {F E : Type 0} (r : CommRing F) (a : AlgebraOver F E) (laws : AlgebraOv
     collide_few zero away [] distinct all = omega arith
     collide_few zero away (beta ∷ betas) distinct all = let no : false ≡ true = All-head (λ _. false ≡ true) beta betas all in cc
     collide_few (suc n) away betas distinct all =
-        omega (arith, AtMost-either (λ beta. ext_eq (print r a laws g offered beta n) (print r a laws g looked_up beta row)) (collides n)
-        (one_collides n (away n (omega arith))) (collide_few n (λ k lt. away k (omega (arith, lt)))) betas distinct all)
+        omega (
+          arith,
+          AtMost-either (λ beta. ext_eq (print r a laws g offered beta n) (print r a laws g looked_up beta row)) (collides n)
+              (one_collides n (away n (omega arith))) (collide_few n (λ k lt. away k (omega (arith, lt)))) betas distinct all,
+        )
 
     none_collides : (beta : E) (n : ℕ) → collides n beta ≡ false → (k : ℕ) → k < n → print r a laws g offered beta k ≢ print r a laws g looked_up beta row
     none_collides beta zero h k lt e = absurd (omega (arith, lt))
@@ -165,12 +168,15 @@ module _ {F E : Type 0} (r : CommRing F) (a : AlgebraOver F E) (laws : AlgebraOv
         λ beta good xs apart_xs all.
         let looks = print r a laws g looked_up beta in
         let offers = print r a laws g offered beta in
-        let times = λ i. a.embed (on_row r g i multiplicity) in
+        let times : ℕ → E = λ i. a.embed (on_row r g i multiplicity) in
         let v = looks row in
         let some : total a.ring ext_eq v (rows_of beta) ≢ a.ring.zero =
         total_some a.ring looks offers times ext_eq decides v p has row n lt short refl (none_collides g looked_up offered long row beta n good) in
-        omega (arith, others_most a.ring looks offers times ext_eq decides v n,
-        few_balance a.ring ext_eq v decides domain (rows_of beta) some xs apart_xs
-        (All-weaker _ (λ alpha. Balances a.ring alpha (rows_of beta)) (λ alpha h. balances alpha beta (told alpha beta h)) xs all)) in
+        omega (
+          arith,
+          others_most a.ring looks offers times ext_eq decides v n,
+          few_balance a.ring ext_eq v decides domain (rows_of beta) some xs apart_xs
+              (All-weaker _ (λ alpha. Balances a.ring alpha (rows_of beta)) (λ alpha h. balances alpha beta (told alpha beta h)) xs all),
+        ) in
         few_pairs passes (collides g looked_up offered long row n) (2 * n) alphas distinct few (n * (length offered - 1))
         (collide_few g looked_up offered long row n away) betas apart

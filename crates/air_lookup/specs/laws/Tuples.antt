@@ -16,7 +16,7 @@ use Rattle.air_report.specs.Permuted.{PermutationTrace, permutation_at}
 use Rattle.air_lookup.specs.Balance.{Entry, Balances}
 use Rattle.air_lookup.specs.Columns.{Interaction, entries_at, entries_below}
 use Rattle.air_lookup.specs.Theorem.{challenge_of}
-use Rattle.air_lookup.specs.Tuples.{Avoids, AllAvoid, only_challenges, leaves_with, entries_with, AgreeBut, FewChallengesPassBeside, fingerprint, FewCollide}
+use Rattle.air_lookup.specs.Tuples.{Avoids, AllAvoid, only_challenges, leaves_with, entries_with, AgreeBut, PassesBeside, FewChallengesPassBeside, fingerprint, FewCollide}
 use Rattle.air_lookup.specs.laws.Balance.{few_balance}
 use Rattle.air_lookup.specs.laws.Polynomials.{add_scaled-length, difference, difference-value, difference_first}
 use Rattle.air_lookup.specs.laws.Traces.{leaves, lookup_balances}
@@ -65,7 +65,7 @@ module _ {F E : Type 0} (r : CommRing F) (a : AlgebraOver F E) (eq : F → F →
   pub few_challenges_pass_beside : IsDomain a.ring → FewChallengesPassBeside r a eq ext_eq
   few_challenges_pass_beside domain g p xs avoid has challenges v other =
       let es = entries_with r a g challenges xs in
-      AtMost-weaker
+      AtMost-weaker {P = λ alpha. Balances a.ring alpha es} {Q = λ alpha. PassesBeside r a eq ext_eq g p.challenge challenges alpha}
       (λ alpha h. subst (λ x. Balances a.ring x es) h.challenge_is
       (subst (Balances a.ring (challenge_of a h.permutation p.challenge)) (rows_beside r a p.challenge g h.permutation challenges h.beside xs avoid (row_count g))
       (lookup_balances r a eq ext_eq decides laws g p xs has h.permutation h.lists)))

@@ -1,5 +1,6 @@
 use contract.BorrowLft.{⊑_static}
 use Rattle.std.proofs.Common.{None, subst}
+use Rattle.std.proofs.lemmas.Result.{err_from_is_err_and}
 use Rattle.air_blake3.specs.Traces.{AreCompressionRows}
 use Rattle.air_blake3.proofs.Checked.{compression_rows_pass, compressions_hold}
 use Rattle.air_blake3.proofs.checks.are_compressions.Goals as goal
@@ -10,6 +11,11 @@ returns-clause-answer g c = record {
   exact = c.in_ok-report.ensures.report;
   is_empty = c.is_ok.ensures;
 }
+
+pub returns-in_err-report-clause-refused : goal.returns-in_err-report-clause-refused
+returns-in_err-report-clause-refused g c =
+    let p = err_from_is_err_and c.from_residual.result c.from_residual.ensures.1 in
+    rw (p.1, p.2) c.in_err-report.ensures.refused
 
 pub returns-clause-sound : goal.returns-clause-sound
 returns-clause-sound g c =

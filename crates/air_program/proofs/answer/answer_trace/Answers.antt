@@ -1,4 +1,4 @@
-use Rattle.std.proofs.Common.{◌≡◌, string_bytes, rules}
+use Rattle.std.proofs.Common.{◌≡◌, length, string_bytes, rules}
 use Rattle.std.proofs.lemmas.Result.{err_from_is_err_and}
 use Rattle.air_field.specs.BabyBear.{BabyBear}
 use Rattle.air_program.proofs.FibonacciRefusals.{audit_refuses}
@@ -20,17 +20,18 @@ returns-in_err-audit c =
     let p = err_from_is_err_and out.result out.ensures.1 in
     let no = c.in_err-audit in
     let main = c.trace_of-main.result in
-    let public = c.in_ok-public_values.public_values.items in
+    let public = c.in_ok-public_values.field-0.public_values.items in
     let wide : main.width ≡ 2 = search rules in
+    let three : length public ≡ 3 = search rules in
     rw p.1 (record {
       ok = tt;
-      refused = refused asked.cap asked.transition_weight c.args.input.now public c.in_ok-public_values.values.items p.0 c.in_ok-public_values.ensures.ok
-          (rw c.trace_of-main.ensures.trace at (told_as no.field-0.0 p.0 p.2 (audit_refuses BabyBear _ _ main public asked.cap asked.transition_weight no.field-0.0 wide c.in_ok-public_values.ensures.three c.trace_of-main.ensures.height no.ensures.refused)));
+      refused = refused asked.cap asked.transition_weight c.args.input.now public c.in_ok-public_values.field-0.values.items p.0 c.in_ok-public_values.ensures.ok
+          (rw c.trace_of-main.ensures.trace at (told_as no.field-0.0 p.0 p.2 (audit_refuses BabyBear _ _ main public asked.cap asked.transition_weight no.field-0.0 wide three c.trace_of-main.ensures.height no.ensures.refused)));
     })
 
 pub returns : goal.returns
 returns c =
     let asked = c.args.asked in
     gives _ c.render.result
-    (λ a t. answered asked.cap asked.transition_weight c.args.input.now c.in_ok-public_values.public_values.items c.in_ok-public_values.values.items c.in_ok-audit.audit c.in_ok-public_values.ensures.ok (rw c.trace_of-main.ensures.trace at c.in_ok-audit.ensures.audited) a.status (string_bytes a.text) t)
+    (λ a t. answered asked.cap asked.transition_weight c.args.input.now c.in_ok-public_values.field-0.public_values.items c.in_ok-public_values.field-0.values.items c.in_ok-audit.audit c.in_ok-public_values.ensures.ok (rw c.trace_of-main.ensures.trace at c.in_ok-audit.ensures.audited) a.status (string_bytes a.text) t)
     c.render.ensures.tells c.render.ensures.refused

@@ -26,8 +26,8 @@ returns-in_err-audit-clause-refused g c =
     let air = c.with_labels-air.result in
     let made = c.in_ok-air.ensures in
     let labelled = c.with_labels-air.ensures in
-    let same : input_of air input.trial ≡ input = input_made input air (labelled.pool ∙ made.pool) (labelled.roots ∙ made.roots) labelled.labels (labelled.beside ∙ made.beside) in
-    rw (p.1, p.2) (λ n d h. inr (input_of air input.trial, subst (λ i. SpellsInput m d i) (sym same) (c.in_ok-constraints.ensures.read d h), c.in_err-audit.ensures.refused))
+    let same : input_of air.pool air.roots air.labels air.beside input.trial ≡ input = input_made input (labelled.pool ∙ made.pool) (labelled.roots ∙ made.roots) labelled.labels (labelled.beside ∙ made.beside) in
+    rw (p.1, p.2) (λ n d h. inr (input_of air.pool air.roots air.labels air.beside input.trial, subst (λ i. SpellsInput m d i) (sym same) (c.in_ok-constraints.ensures.read d h), c.in_err-audit.ensures.refused))
 
 pub returns-clause-audited : goal.returns-clause-audited
 returns-clause-audited g c = λ d h.
@@ -36,7 +36,7 @@ returns-clause-audited g c = λ d h.
     let air = c.with_labels-air.result in
     let made = c.in_ok-air.ensures in
     let labelled = c.with_labels-air.ensures in
-    let same : input_of air input.trial ≡ input = input_made input air (labelled.pool ∙ made.pool) (labelled.roots ∙ made.roots) labelled.labels (labelled.beside ∙ made.beside) in
+    let same : input_of air.pool air.roots air.labels air.beside input.trial ≡ input = input_made input (labelled.pool ∙ made.pool) (labelled.roots ∙ made.roots) labelled.labels (labelled.beside ∙ made.beside) in
     record { spelt = subst (λ i. SpellsInput m d i) (sym same) (c.in_ok-constraints.ensures.read d h); audited = c.in_ok-audit.ensures.audited }
 
 pub audit_on-requires-lives-A-Air-2 : goal.audit_on-requires-lives-A-Air-2

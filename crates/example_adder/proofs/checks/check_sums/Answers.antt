@@ -7,6 +7,12 @@ use Rattle.p3_air.specs.laws.Claims.{bits_of_word, plain_vanish, adds_up, both_v
 use Rattle.example_adder.specs.Adder.{adder}
 use Rattle.example_adder.proofs.checks.check_sums.Goals as goal
 
+pub returns-clause-kept : goal.returns-clause-kept
+returns-clause-kept g c = c.check_constraints.ensures.kept
+
+pub returns-clause-error : goal.returns-clause-error
+returns-clause-error g c = c.check_constraints.ensures.error
+
 pub returns-clause-sums : goal.returns-clause-sums
 returns-clause-sums g c =
     let R = g.F.Field.ring in

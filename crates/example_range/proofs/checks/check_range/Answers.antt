@@ -6,6 +6,12 @@ use Rattle.p3_air.specs.laws.Claims.{bits_below, plain_vanish}
 use Rattle.example_range.specs.Range.{range}
 use Rattle.example_range.proofs.checks.check_range.Goals as goal
 
+pub returns-clause-kept : goal.returns-clause-kept
+returns-clause-kept g c = c.check_constraints.ensures.kept
+
+pub returns-clause-error : goal.returns-clause-error
+returns-clause-error g c = c.check_constraints.ensures.error
+
 pub returns-clause-below : goal.returns-clause-below
 returns-clause-below g c =
     let R = g.F.Field.ring in
