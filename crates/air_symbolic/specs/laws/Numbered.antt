@@ -1,5 +1,5 @@
 -- A pool is determined by the trees that are made in it, in order.
-use Rattle.std.proofs.Common.{◌≡◌, ⊎_elim, inl, inr, ℕ, zero, suc, ◌+◌, ◌<◌, ◌≤◌, List, [], ◌∷◌, ◌++◌, length, map, take, get_or, Contains, refl, sym, ap, subst, ◌∙◌, arith}
+use Rattle.std.proofs.Common.{◌≡◌, inl, inr, ℕ, zero, suc, ◌+◌, ◌<◌, ◌≤◌, List, [], ◌∷◌, ◌++◌, length, map, take, get_or, Contains, refl, sym, ap, subst, ◌∙◌, arith}
 use Rattle.std.specs.Prelude.{Option, Some, None, slice_get}
 use Rattle.std.proofs.lemmas.List.{take_more, take_all, get_or-take, length-take-le, length-append, ext_get_or}
 use Rattle.std.proofs.lemmas.Option.{slice_get-get_or, get_or_from_slice_get, same_Some}
@@ -8,7 +8,7 @@ use Rattle.air_symbolic.specs.Leaves.{Leaves}
 use Rattle.air_symbolic.specs.Trees.{Tree, term_of}
 use Rattle.air_symbolic.specs.Nodes.{unfold_node, in_turn, tree_of, node_degree, NodeFits, WellFormed, OperandsBelow, IsNode}
 use Rattle.air_symbolic.specs.Numbered.{Numbered, GainsEach, trees_in}
-use Rattle.air_symbolic.specs.Pools.{Pool, IsPool}
+use Rattle.air_symbolic.specs.Pools.{Pool, on_base, IsPool}
 use Rattle.air_symbolic.specs.laws.Numbers.{length-in_turn, made-kept, tree_of-valid, tree_there}
 use Rattle.air_symbolic.specs.laws.Sharing.{found, there_at, is_there, unfold-there, same_node, shared}
 use Rattle.air_symbolic.specs.declared.pools.expr.SymbolicExpr.{SymbolicExpr}
@@ -47,7 +47,7 @@ module _ {A : Type 0} where
   trees ns = in_turn None unfold_node [] ns
 
   counted : (ns : List (SymbolicExpr A)) → length (trees ns) ≡ length ns
-  counted ns = length-in_turn None unfold_node [] ns
+  counted ns = omega (arith, length-in_turn None unfold_node [] ns)
 
   tree-at : (ns : List (SymbolicExpr A)) (i : ℕ) (d : Option (Tree A)) → i < length ns → get_or (trees ns) i d ≡ tree_of ns i
   tree-at ns i d b =
@@ -155,4 +155,4 @@ pub one_pool : {U A F : Type 0} (reads : U → Leaves A F) (p q : Pool U A) → 
 one_pool reads p q hp hq base same =
     let wf = subst (λ u. WellFormed (reads u) q.nodes) base hq.nodes in
     let nodes : q.nodes ≡ p.nodes = one_list (reads p.base) q.nodes p.nodes wf hp.nodes same in
-    cc
+    ap (λ u. on_base q u) base ∙ ap (λ ns. record { base = p.base; nodes = ns }) nodes
