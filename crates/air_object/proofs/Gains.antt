@@ -1,13 +1,13 @@
 -- Pools that gain the trees of lists.
-use Rattle.std.proofs.Common.{◌≡◌, ℕ, zero, suc, ◌<◌, List, [], ◌∷◌, ◌++◌, length, map, flat_map, All, Option, Some, Ok, refl, sym, ap, subst, ◌∙◌, arith}
+use Rattle.std.proofs.Common.{◌≡◌, ℕ, zero, suc, List, [], ◌∷◌, ◌++◌, map, flat_map, Some, refl, sym, ap, subst, ◌∙◌, arith}
 use Rattle.std.proofs.lemmas.List.{append-nil, append_assoc, map-append}
 use Rattle.serde_json.specs.Data.{Data, Items, no_items, item}
 use Rattle.serde_json.specs.Find.{as_array}
 use Rattle.serde_json.specs.View.{items_of}
-use Rattle.air_field.specs.Modular.{Modular, modular_ring}
+use Rattle.air_field.specs.Modular.{Modular}
 use Rattle.air_symbolic.specs.BaseLeaves.{base_leaves, base_reads}
 use Rattle.air_symbolic.specs.ExtLeaves.{BaseNodes}
-use Rattle.air_symbolic.specs.Numbered.{Numbered, GainsEach, trees_in}
+use Rattle.air_symbolic.specs.Numbered.{GainsEach, trees_in}
 use Rattle.air_symbolic.specs.Pools.{IsPool, tree_at}
 use Rattle.air_symbolic.specs.Trees.{Tree}
 use Rattle.air_symbolic.specs.declared.leaves.base_leaf.BaseLeaf.{BaseLeaf}
@@ -16,13 +16,11 @@ use Rattle.air_symbolic.specs.laws.Sharing.{shared}
 use Rattle.air_json.specs.BaseLeaves.{base_kind, base_seen}
 use Rattle.air_json.specs.ListReaders.{ReadsInto}
 use Rattle.air_json.specs.NodeLists.{AreNodes}
-use Rattle.air_json.specs.Nodes.{nodes_from}
 use Rattle.air_json.specs.Unshared.{seen_at}
-use Rattle.air_json.specs.declared.errors.FlatError.{FlatError}
 use Rattle.air_json.specs.laws.BaseLeaves.{base_kind_laws, over_same}
 use Rattle.air_json.specs.laws.Lists.{nodes_again}
 use Rattle.air_json.specs.laws.Readings.{done_is}
-use Rattle.air_object.specs.Gained.{PoolTrees, nodes_of, GainsLists, GainsArray, GainsMember, AreRootsOf}
+use Rattle.air_object.specs.Gained.{PoolTrees, nodes_of, GainsLists, GainsMember, AreRootsOf}
 use Rattle.air_object.specs.Objects.{AllSpell}
 use Rattle.air_object.specs.laws.Members.{constraints_agree}
 use Rattle.air_object.proofs.Trees.{GrownTo, AllIn}
@@ -120,8 +118,8 @@ module _ {F : Type 0} {order : ℕ} (modular : Modular F order) where
 
   pub one_roots : (d : Data) (p q : BaseNodes F) (is js : List ℕ) → AreRootsOf modular d p is → AreRootsOf modular d q js → (p ≡ q) × (is ≡ js)
   one_roots d p q is js h k =
-      let pools : p ≡ q = one_pool base_reads q p k.pool h.pool refl (trees_once d (trees_in p) (trees_in q) h.gained k.gained) in
+      let pools : p ≡ q = one_pool base_reads q p k.is_pool h.is_pool refl (trees_once d (trees_in p) (trees_in q) h.gained k.gained) in
       let read = (constraints_agree modular).again d in
       let trees = done_is (λ ts. map (tree_at p) is ≡ ts) (map (tree_at p) is) (map (tree_at q) js) (sym (read (map (tree_at p) is) h.trees) ∙ read (map (tree_at q) js) k.trees) refl in
       let there = subst (λ s. AllIn s js) (sym pools) k.here in
-      (pools, roots_once p h.pool is js h.here there (trees ∙ ap (λ s. map (tree_at s) js) (sym pools)))
+      (pools, roots_once p h.is_pool is js h.here there (trees ∙ ap (λ s. map (tree_at s) js) (sym pools)))

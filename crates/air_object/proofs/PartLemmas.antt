@@ -115,11 +115,12 @@ module _ {X : Type 0} (read : Reader X) where
       (turn.0, turn.1, ds ++ d ∷ [], turn.2, turn.3, subst After (sym (each_from_push read [] ds d)) (more (each_from read [] (items_of ds)) given))
 
 module _ {F : Type 0} {order : ℕ} (modular : Modular F order) where
-  -- a fact about reading an array's items is one about reading the array
-  pub of_array : {E R : Type 0} (P : R → Data → Type 0) (r : Result R E) (whole : Option (Data × List Token)) (inside : Option (Items × List Token)) (rest : List Token) → whole ≡ parse_map array inside
-      → IfOk r (λ c. (ds : Items) × (inside ≡ Some (ds, rest)) × P c (array ds)) → IfOk r (λ c. (d : Data) × (whole ≡ Some (d, rest)) × P c d)
-  of_array P (Ok c) whole inside rest e h = (array h.0, e ∙ ap (parse_map array) h.1, h.2)
-  of_array P (Err f) whole inside rest e h = tt
+  -- a list that is read from an array's items is read from the array
+  pub root_of_array : {E : Type 0} (p q : BaseNodes F) (r : Result (Result ℕ FlatError) E) (whole : Option (Data × List Token)) (inside : Option (Items × List Token)) (rest : List Token) → whole ≡ parse_map array inside
+      → IfOk r (λ root. (ds : Items) × (inside ≡ Some (ds, rest)) × ReadsTree base_grows base_reads tree_at p q root (tree modular (array ds)) × IfOk root (λ _. GainsLists modular (item (array ds) no_items) (trees_in p) (trees_in q)))
+      → IfOk r (λ root. (d : Data) × (whole ≡ Some (d, rest)) × ReadsTree base_grows base_reads tree_at p q root (tree modular d) × IfOk root (λ _. GainsLists modular (item d no_items) (trees_in p) (trees_in q)))
+  root_of_array p q (Ok root) whole inside rest e h = (array h.0, e ∙ ap (parse_map array) h.1, h.2, h.3)
+  root_of_array p q (Err f) whole inside rest e h = tt
 
   -- the lists of an array are the constraints of its value
   pub lists_of_array : {E : Type 0} (r : Result (Constraints F) E) (whole : Option (Data × List Token)) (inside : Option (Items × List Token)) (rest : List Token) → whole ≡ parse_map array inside
@@ -319,7 +320,7 @@ module _ {F : Type 0} {order : ℕ} (modular : Modular F order) where
         let h = parts.constraints in
         subst (λ p. AreRootsOf modular d p l.roots.items) (sym taken.0)
         record {
-          pool = h.inside.pool;
+          is_pool = h.inside.pool;
           gained = subst (λ (r : Result (Vec ℕ Global) FlatError). IfOk r (λ _. GainsMember modular d (trees_in c.pool))) taken.1 h.gained;
           here = subst (λ (r : Result (Vec ℕ Global) FlatError). IfOk r (λ v. AllIn c.pool v.items)) taken.1 h.inside.here;
           trees = (constraints_agree modular).found d (map (tree_at c.pool) l.roots.items) (gives_ok (λ roots. map (tree_at c.pool) roots.items) c.roots l.roots (constraints_member modular d) taken.1 h.read);

@@ -44,7 +44,7 @@ GainsMember m d trees = GainsFound m (get (codes "constraints") d) trees
 -- The pool of the object d: it has the tree of each node of the member `constraints` once, in the order in which they
 -- occur first, and no other trees. The roots are the numbers of the constraints' trees.
 pub record AreRootsOf {F : Type 0} {p : ℕ} (m : Modular F p) (d : Data) (pool : BaseNodes F) (roots : List ℕ) : Type 0 where
-  pub pool : IsPool base_reads pool
+  pub is_pool : IsPool base_reads pool
   pub gained : GainsMember m d (trees_in pool)
   pub here : All (λ i. i < size pool) roots
   pub trees : (constraints m).spells d (map (tree_at pool) roots)

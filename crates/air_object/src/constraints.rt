@@ -1,5 +1,5 @@
 //! Constraints, each a list of base nodes, in one pool.
-ghost use Rattle.std.specs.Prelude.{[], Ok, Err, IfOk};
+ghost use Rattle.std.specs.Prelude.{◌≡◌, [], Ok, Err, IfOk};
 ghost use Rattle.serde_json.specs.Data.{item, no_items};
 ghost use Rattle.serde_json.specs.View.{view, items_view};
 ghost use Rattle.air_symbolic.specs.BaseLeaves.{base_reads, base_grows};

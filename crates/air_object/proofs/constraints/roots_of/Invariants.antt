@@ -13,5 +13,5 @@ invariant-loop-item g l = record {
   here : AllIn l.pool l.roots.items;
   read : each_from (tree g.F.PrimeField64.residues) (map (tree_at l.pool) l.roots.items) (items_view (drop l.item-index l.items)) ≡ each_from (tree g.F.PrimeField64.residues) [] (items_view l.items);
   -- whatever the rest gains after this, all gain from the beginning
-  gained : (after : PoolTrees g.F) → GainsLists g.F.PrimeField64.residues (items_view (drop l.item-index l.items)) (trees_in l.pool) after → GainsLists g.F.PrimeField64.residues (items_view l.items) (trees_in l.initial.pool) after;
+  gained : (after : PoolTrees _) → GainsLists g.F.PrimeField64.residues (items_view (drop l.item-index l.items)) (trees_in l.pool) after → GainsLists g.F.PrimeField64.residues (items_view l.items) (trees_in l.initial.pool) after;
 }

@@ -31,7 +31,7 @@ pub returns-clause-read : goal.returns-clause-read
 returns-clause-read g c d parts =
     let m = g.F.PrimeField64.residues in
     let input = c.in_ok-input.input in
-    let taken = subst (λ (r : Result (FlatInput g.F) MatrixError). IfOk r (λ i. TakesPool c.args.constraints i.constraints)) c.in_ok-input.was c.in_ok-made.ensures.taken in
+    let taken = subst (λ (r : Result (FlatInput _) MatrixError). IfOk r (λ i. TakesPool c.args.constraints i.constraints)) c.in_ok-input.was c.in_ok-made.ensures.taken in
     record {
       members = parts_spell m d (view c.args.value.now) c.args.main c.args.constraints parts c.in_ok-made.made (Ok input) c.in_ok-made.ensures.read c.in_ok-input.was;
       roots = roots_given m d (view c.args.value.now) c.args.main c.args.constraints parts input.constraints taken;
