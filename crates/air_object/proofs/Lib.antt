@@ -3,3 +3,4 @@ pub mod Trees
 pub mod InputLaws
 pub mod TokenLemmas
 pub mod PartLemmas
+pub mod ReadBack

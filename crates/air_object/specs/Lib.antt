@@ -6,4 +6,5 @@ pub mod Input
 pub mod Seen
 pub mod Begun
 pub mod Parts
+pub mod Writing
 pub mod laws
