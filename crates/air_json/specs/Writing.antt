@@ -17,7 +17,7 @@ abbrev pub Placed : List (Option ℕ) → ℕ → Type 0
 Placed places x = (i : ℕ) × (slice_get places x ≡ Some (Some i))
 
 -- the table without the places of these numbers, which are taken out from the last on
-pub without_places : List ℕ → List (Option ℕ) → List (Option ℕ)
+unfoldable pub without_places : List ℕ → List (Option ℕ) → List (Option ℕ)
 without_places [] places = places
 without_places (n ∷ ns) places = set (without_places ns places) n None
 
