@@ -23,7 +23,8 @@ pub(crate) fn layout_for<F: Copy, A: BaseAir<F>>(
     main: &RowMajorMatrix<F>,
     public_values: &[F],
 ) -> AirLayout
-    ensures { result ≡ layout_for (A.declaration air.now) main.now.width (length public_values.now) }
+    ensures { result ≡ layout_for (A.declaration air.now) main.now.width
+        (length public_values.now) }
 {
     AirLayout {
         main_width: main.width(),
@@ -54,9 +55,10 @@ pub fn export_air<
 ) -> Result<Value, ExportError>
     ensures air { IfOk result (λ v. (input : FlatInput F) → SpellsInput F.residues (view v) input →
         IsExportOf F.ring (flat_declaration input) (A.declaration air.now)) }
-    ensures trial { IfOk result (λ v. (input : FlatInput F) → SpellsInput F.residues (view v) input →
-        IsTrial main.now public_values.now cap transition_weight input.trial) }
-    ensures is_read { IfOk result (λ v. (e : AirError) → HasInputFault F.residues (view v) e → ⊥) }
+    ensures trial { IfOk result (λ v. (input : FlatInput F) →
+        SpellsInput F.residues (view v) input → IsTrial main.now public_values.now cap transition_weight input.trial) }
+    ensures is_read { IfOk result (λ v. (e : AirError) →
+        HasInputFault F.residues (view v) e → ⊥) }
     ensures field { IfOk result (λ v. IsOverField F.ORDER_U64 (view v)) }
     ensures refused { IfErr result (ExportRefuses F.ORDER_U64 (A.declaration air.now) main.now.width
         (length public_values.now)) }
@@ -97,9 +99,10 @@ pub fn export_air_alone<
 ) -> Result<Value, ExportError>
     ensures air { IfOk result (λ v. (input : FlatInput F) → SpellsInput F.residues (view v) input →
         IsExportOf F.ring (flat_declaration input) (A.declaration air.now)) }
-    ensures trial { IfOk result (λ v. (input : FlatInput F) → SpellsInput F.residues (view v) input →
-        IsTrialWithoutRows F.ring.zero (A.declaration air.now) input.trial) }
-    ensures is_read { IfOk result (λ v. (e : AirError) → HasInputFault F.residues (view v) e → ⊥) }
+    ensures trial { IfOk result (λ v. (input : FlatInput F) →
+        SpellsInput F.residues (view v) input → IsTrialWithoutRows F.ring.zero (A.declaration air.now) input.trial) }
+    ensures is_read { IfOk result (λ v. (e : AirError) →
+        HasInputFault F.residues (view v) e → ⊥) }
     ensures field { IfOk result (λ v. IsOverField F.ORDER_U64 (view v)) }
     ensures refused { IfErr result (ExportRefuses F.ORDER_U64 (A.declaration air.now)
         (A.declaration air.now).width (A.declaration air.now).num_public_values) }

@@ -24,6 +24,7 @@ use serde_json::{Value, json};
 use std::alloc::{AllocError, Global};
 
 /// What an object is written from.
+#[derive(Drop)]
 pub struct ObjectParts<'a, F: Field> {
     pub pool: &'a BasePool<F>,
     /// The constraints.
@@ -44,6 +45,7 @@ pub struct ObjectParts<'a, F: Field> {
 }
 
 // The values of all members but the preprocessed trace.
+#[derive(Drop)]
 struct MemberData {
     field: &'static str,
     main_width: usize,
@@ -125,54 +127,56 @@ fn constraints_value<F: PrimeField64>(
         (trees_of pool.now roots.now)) }
     ensures refused { IfErr result (λ e. e ≡ FlatError.Memory) }
 {
-    Ok(Value::from(to_flat_values(alloc, pool, roots)?))
+    let lists = to_flat_values(alloc, pool, roots)?;
+    Ok(Value::from(lists))
 }
 
 // The object without a preprocessed trace.
-fn without_table(alloc: Global, data: MemberData) -> Result<Value, AllocError>
-    ensures { IfOk result (λ v. view v ≡ object_data (view data.boundary) (view data.cap)
-        (view data.constraints) data.field.now (view data.labels) (view data.main) data.main_width
-        (view data.periodic) None (view data.public_values) data.transition_weight) }
+fn without_table(alloc: Global, named: MemberData) -> Result<Value, AllocError>
+    ensures { IfOk result (λ v. view v ≡ object_data (view named.boundary) (view named.cap)
+        (view named.constraints) named.field.now (view named.labels) (view named.main)
+        named.main_width (view named.periodic) None (view named.public_values)
+        named.transition_weight) }
 {
     json!(in alloc; {
-        "boundary": data.boundary,
-        "cap": data.cap,
-        "constraints": data.constraints,
-        "field": data.field,
-        "labels": data.labels,
-        "main": data.main,
-        "main_width": data.main_width,
-        "periodic": data.periodic,
-        "public_values": data.public_values,
-        "transition_weight": data.transition_weight
+        "boundary": named.boundary,
+        "cap": named.cap,
+        "constraints": named.constraints,
+        "field": named.field,
+        "labels": named.labels,
+        "main": named.main,
+        "main_width": named.main_width,
+        "periodic": named.periodic,
+        "public_values": named.public_values,
+        "transition_weight": named.transition_weight
     })
 }
 
 // The object with a preprocessed trace of this width and these values.
 fn with_table(
     alloc: Global,
-    data: MemberData,
+    named: MemberData,
     width: usize,
     values: Value,
 ) -> Result<Value, AllocError>
-    ensures { IfOk result (λ v. view v ≡ object_data (view data.boundary) (view data.cap)
-        (view data.constraints) data.field.now (view data.labels) (view data.main) data.main_width
-        (view data.periodic) (Some (width, view values)) (view data.public_values)
-        data.transition_weight) }
+    ensures { IfOk result (λ v. view v ≡ object_data (view named.boundary) (view named.cap)
+        (view named.constraints) named.field.now (view named.labels) (view named.main)
+        named.main_width (view named.periodic) (Some (width, view values))
+        (view named.public_values) named.transition_weight) }
 {
     json!(in alloc; {
-        "boundary": data.boundary,
-        "cap": data.cap,
-        "constraints": data.constraints,
-        "field": data.field,
-        "labels": data.labels,
-        "main": data.main,
-        "main_width": data.main_width,
-        "periodic": data.periodic,
+        "boundary": named.boundary,
+        "cap": named.cap,
+        "constraints": named.constraints,
+        "field": named.field,
+        "labels": named.labels,
+        "main": named.main,
+        "main_width": named.main_width,
+        "periodic": named.periodic,
         "preprocessed": values,
         "preprocessed_width": width,
-        "public_values": data.public_values,
-        "transition_weight": data.transition_weight
+        "public_values": named.public_values,
+        "transition_weight": named.transition_weight
     })
 }
 
@@ -232,12 +236,12 @@ fn written_object<F: PrimeField64>(
     ensures field { IfOk result (λ v. field_of (view v) ≡ Some field) }
     ensures refused { IfErr result (λ e. e ≡ FlatError.Memory) }
 {
-    let data = member_data(alloc, field, parts)?;
+    let named = member_data(alloc, field, parts)?;
     match parts.preprocessed {
-        None => Ok(without_table(alloc, data)?),
+        None => Ok(without_table(alloc, named)?),
         Some(table) => {
             let values = elements_value(alloc, table.values)?;
-            Ok(with_table(alloc, data, table.width, values)?)
+            Ok(with_table(alloc, named, table.width, values)?)
         }
     }
 }

@@ -20,6 +20,9 @@ use Rattle.air_json.specs.Written.{IsWritten}
 use Rattle.air_json.specs.laws.BaseLeaves.{base_kind_laws, over_same}
 use Rattle.air_json.specs.laws.Boundaries.{cell_laws}
 use Rattle.air_json.specs.laws.Written.{written_list}
+use Rattle.air_json.specs.Parts.{find_name}
+use Rattle.air_object.specs.Fields.{field_names, field_of}
+use Rattle.air_object.specs.declared.field_name.FieldName.{FieldName}
 use Rattle.air_object.specs.Members.{element, constraint, boundary_cell, SpellsCap, cap, label, TableValues, table_of, made, members}
 use Rattle.air_object.specs.Objects.{Grammar, list_of, AllSpell}
 use Rattle.air_object.specs.Writing.{elements_data, columns_data, cells_data, labels_data, cap_data, object_data, trees_of, seen_parts}
@@ -28,9 +31,9 @@ use Rattle.air_object.specs.declared.writing.ObjectParts.{ObjectParts}
 -- ---- lists
 
 -- each value spells its element
-each_spells : {X Y : Type 0} (g : Grammar Y) (data : X → Data) (of : X → Y) → ((x : X) → g.spells (data x) (of x)) → (xs : List X) → AllSpell g (items_of (map data xs)) (map of xs)
-each_spells g data of one [] = tt
-each_spells g data of one (x ∷ xs) = (one x, each_spells g data of one xs)
+each_spells : {X Y : Type 0} (g : Grammar Y) (value : X → Data) (of : X → Y) → ((x : X) → g.spells (value x) (of x)) → (xs : List X) → AllSpell g (items_of (map value xs)) (map of xs)
+each_spells g value of one [] = tt
+each_spells g value of one (x ∷ xs) = (one x, each_spells g value of one xs)
 
 map_same : {X : Type 0} (xs : List X) → map (λ x. x) xs ≡ xs
 map_same [] = refl
@@ -46,6 +49,12 @@ labels_spell labels = (_, refl, each_spells label (λ l. string (string_bytes l)
 pub cap_spells : (most : Option ℕ) → SpellsCap (cap_data most) most
 cap_spells None = refl
 cap_spells (Some n) = refl
+
+-- the object names its field
+pub object_field : (boundary most constraints : Data) (field : List ℕ) (labels main : Data) (width : ℕ) (periodic : Data) (table : Option (ℕ × Data)) (public : Data) (weight : ℕ) (name : FieldName) → find_name field_names field ≡ Some name
+    → field_of (object_data boundary most constraints field labels main width periodic table public weight) ≡ Some name
+unfolding field_of
+object_field boundary most constraints field labels main width periodic table public weight name h = h
 
 module _ {F : Type 0} {p : ℕ} (m : Modular F p) where
   numbers_spell : (xs : List F) → AllSpell (element m) (number_items m xs) xs
@@ -79,7 +88,7 @@ module _ {F : Type 0} {p : ℕ} (m : Modular F p) where
         → (list_of label).spells labels texts → length texts ≤ length trees
         → (members m).spells (object_data boundary most constraints field labels main width periodic None public weight) (made width values (table_of None) given trees columns cells limit weight texts)
     object_spells values given trees columns cells limit texts a b c d e f l within =
-        (width, (_, refl, refl), values, (main, refl, a), table_of None, (None, inl (refl, refl, refl), refl), given, (public, refl, b), trees, (constraints, refl, c), columns, inr (periodic, refl, d), cells, inr (boundary, refl, e), limit, inr (most, refl, f), weight, inr (_, refl, refl), texts, inr (labels, refl, l, within), refl)
+        (width, (_, refl, refl), (values, (main, refl, a), (table_of None, (None, inl (refl, refl, refl), refl), (given, (public, refl, b), (trees, (constraints, refl, c), (columns, inr (periodic, refl, d), (cells, inr (boundary, refl, e), (limit, inr (most, refl, f), (weight, inr (_, refl, refl), (texts, inr (labels, refl, (l, within)), refl))))))))))
 
     -- with a preprocessed trace of this width
     pub table_spells : (broad : ℕ) (table : Data) (entries : List F) (values given : List F) (trees : List (Option (Tree (BaseLeaf F)))) (columns : List (List F)) (cells : List BoundaryPublic) (limit : Option ℕ) (texts : List (List ℕ))
@@ -89,7 +98,7 @@ module _ {F : Type 0} {p : ℕ} (m : Modular F p) where
         → (list_of label).spells labels texts → length texts ≤ length trees
         → (members m).spells (object_data boundary most constraints field labels main width periodic (Some (broad, table)) public weight) (made width values (table_of (Some (broad, entries))) given trees columns cells limit weight texts)
     table_spells broad table entries values given trees columns cells limit texts t a b c d e f l within =
-        (width, (_, refl, refl), values, (main, refl, a), table_of (Some (broad, entries)), (Some (broad, entries), inr ((broad, entries), (broad, (_, refl, refl), entries, (table, refl, t), refl), refl), refl), given, (public, refl, b), trees, (constraints, refl, c), columns, inr (periodic, refl, d), cells, inr (boundary, refl, e), limit, inr (most, refl, f), weight, inr (_, refl, refl), texts, inr (labels, refl, l, within), refl)
+        (width, (_, refl, refl), (values, (main, refl, a), (table_of (Some (broad, entries)), (Some (broad, entries), inr ((broad, entries), (broad, (_, refl, refl), (entries, (table, refl, t), refl)), refl), refl), (given, (public, refl, b), (trees, (constraints, refl, c), (columns, inr (periodic, refl, d), (cells, inr (boundary, refl, e), (limit, inr (most, refl, f), (weight, inr (_, refl, refl), (texts, inr (labels, refl, (l, within)), refl))))))))))
 
   -- ---- what an object is written from
 
