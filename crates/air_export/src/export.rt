@@ -53,10 +53,12 @@ pub fn export_air<
     cap: Option<usize>,
     transition_weight: usize,
 ) -> Result<Value, ExportError>
-    ensures air { IfOk result (λ v. (input : FlatInput F) → SpellsInput F.residues (view v) input →
+    ensures air { IfOk result (λ v. (input : FlatInput F) →
+        SpellsInput F.residues (view v) input →
         IsExportOf F.ring (flat_declaration input) (A.declaration air.now)) }
     ensures trial { IfOk result (λ v. (input : FlatInput F) →
-        SpellsInput F.residues (view v) input → IsTrial main.now public_values.now cap transition_weight input.trial) }
+        SpellsInput F.residues (view v) input →
+        IsTrial main.now public_values.now cap transition_weight input.trial) }
     ensures is_read { IfOk result (λ v. (e : AirError) →
         HasInputFault F.residues (view v) e → ⊥) }
     ensures field { IfOk result (λ v. IsOverField F.ORDER_U64 (view v)) }
@@ -97,10 +99,12 @@ pub fn export_air_alone<
     alloc: Global,
     air: &A,
 ) -> Result<Value, ExportError>
-    ensures air { IfOk result (λ v. (input : FlatInput F) → SpellsInput F.residues (view v) input →
+    ensures air { IfOk result (λ v. (input : FlatInput F) →
+        SpellsInput F.residues (view v) input →
         IsExportOf F.ring (flat_declaration input) (A.declaration air.now)) }
     ensures trial { IfOk result (λ v. (input : FlatInput F) →
-        SpellsInput F.residues (view v) input → IsTrialWithoutRows F.ring.zero (A.declaration air.now) input.trial) }
+        SpellsInput F.residues (view v) input →
+        IsTrialWithoutRows F.ring.zero (A.declaration air.now) input.trial) }
     ensures is_read { IfOk result (λ v. (e : AirError) →
         HasInputFault F.residues (view v) e → ⊥) }
     ensures field { IfOk result (λ v. IsOverField F.ORDER_U64 (view v)) }

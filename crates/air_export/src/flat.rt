@@ -29,14 +29,16 @@ pub fn export_flat_air<F: PrimeField64>(
     cap: Option<usize>,
     transition_weight: usize,
 ) -> Result<Value, ExportError>
-    ensures air { IfOk result (λ v. (input : FlatInput F) → SpellsInput F.residues (view v) input →
+    ensures air { IfOk result (λ v. (input : FlatInput F) →
+        SpellsInput F.residues (view v) input →
         AreSame (flat_declaration input)
         (declaration_of (zero_at_roots air.now.pool air.now.roots.items) air.now.beside)) }
     ensures labels { IfOk result (λ v. (input : FlatInput F) →
         SpellsInput F.residues (view v) input → map string_bytes input.constraints.labels.items
         ≡ map string_bytes (take (length air.now.roots.items) air.now.labels.items)) }
     ensures trial { IfOk result (λ v. (input : FlatInput F) →
-        SpellsInput F.residues (view v) input → IsTrial main.now public_values.now cap transition_weight input.trial) }
+        SpellsInput F.residues (view v) input →
+        IsTrial main.now public_values.now cap transition_weight input.trial) }
     ensures is_read { IfOk result (λ v. (e : AirError) →
         HasInputFault F.residues (view v) e → ⊥) }
     ensures field { IfOk result (λ v. IsOverField F.ORDER_U64 (view v)) }
