@@ -1,0 +1,3 @@
+pub mod Claims
+pub mod View
+pub mod Writing

@@ -1,0 +1,3 @@
+pub mod Selfc
+pub mod Refc
+pub mod Barec

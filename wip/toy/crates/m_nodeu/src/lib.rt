@@ -1,0 +1,4 @@
+//! An author's functions.
+#![tactic(auto)]
+
+mod author;
