@@ -1,5 +1,5 @@
 -- What is refused of a part is refused of the whole.
-use Rattle.std.proofs.Common.{◌≡◌, ◌<◌, ◌≤◌, ℕ, zero, suc, List, [], ◌∷◌, ◌++◌, get_or, take, length, map, max, sym, subst, arith}
+use Rattle.std.proofs.Common.{◌≡◌, ◌<◌, ◌≤◌, ◌+◌, ◌-◌, ℕ, zero, suc, List, [], ◌∷◌, ◌++◌, get_or, take, length, map, max, sym, subst, arith}
 use Rattle.std.proofs.Math.Nat.{le-max_left, le-max_right, max-le}
 use Rattle.air_field.specs.Term.{Leaf, Term}
 use Rattle.air_field.specs.Degree.{degree_by, greatest_degree, cached_weight}
@@ -10,9 +10,10 @@ use Rattle.air_builder.specs.Assertion.{Assertion}
 use Rattle.air_core.specs.Errors.{air_error}
 use Rattle.air_core.specs.declared.errors.AirError.{AirError}
 use Rattle.air_core.specs.declared.errors.AirError.TheVariants.{Memory, DegreeOverflow, IndexPastTotal}
-use Rattle.air_draft.specs.DraftTerms.{term_at, terms_after, under_conditions}
+use Rattle.air_draft.specs.DraftTerms.{term_at, power_term, terms_after, under_conditions}
 use Rattle.air_draft.specs.Making.{MakingRefuses, TermOverflows, SomeOverflows}
 use Rattle.air_draft.specs.ExtDraftTerms.{under_lifted, asserted_term}
+use Rattle.air_draft.specs.declared.claim.Factor.{Factor}
 
 -- it is refused where there are more steps, and where a degree may be past the limit if it was
 pub refuses_more : {p q : Type 0} (n m : ℕ) (e : AirError) → n ≤ m → (p → q) → MakingRefuses n p e → MakingRefuses m q e
@@ -25,6 +26,9 @@ refuses_more n m _ le w h = absurd h
 pub max-le_max : (b m n : ℕ) → m ≤ n → max b m ≤ max b n
 max-le_max b m n le = max-le (le-max_left b n) (omega (arith, le, le-max_right b n))
 
+pub max_left-le_max : (m n k : ℕ) → m ≤ n → max m k ≤ max n k
+max_left-le_max m n k le = max-le (omega (arith, le, le-max_left n k)) (le-max_right n k)
+
 -- memory may be refused anywhere
 pub memory_refuses : (p : Type 0) (n : ℕ) (e : AirError) → e ≡ Memory → MakingRefuses n p e
 memory_refuses p n e is = subst (λ x. MakingRefuses n p x) (sym is) tt
@@ -36,28 +40,41 @@ ring_refuses refuses n ring.Memory t h = tt
 ring_refuses refuses n ring.DegreeOverflow t h = h
 
 -- a part of a term is one of it under conditions
-pub Part-under : {F : Type 0} (at : ℕ → Term F) (cs : List ℕ) (u t : Term F) → Part u t → Part u (under_conditions at cs t)
+pub Part-under : {F : Type 0} (at : ℕ → Term F) (cs : List Factor) (u t : Term F) → Part u t → Part u (under_conditions at cs t)
 Part-under at [] u t p = p
 Part-under at (c ∷ cs) u t p = Part-under at cs u _ (in_mul_right p)
 
 -- and so is it under the first of them
-pub Part-under_first : {F : Type 0} (at : ℕ → Term F) (cs : List ℕ) (i : ℕ) (t : Term F)
+pub Part-under_first : {F : Type 0} (at : ℕ → Term F) (cs : List Factor) (i : ℕ) (t : Term F)
     → Part (under_conditions at (take i cs) t) (under_conditions at cs t)
 Part-under_first at [] zero t = whole
 Part-under_first at [] (suc i) t = whole
 Part-under_first at (c ∷ cs) zero t = Part-under at (c ∷ cs) t t whole
 Part-under_first at (c ∷ cs) (suc i) t = Part-under_first at cs i _
 
-pub Part-lifted : {F : Type 0} (at : ℕ → Term F) (cs : List ℕ) (u t : Term F) → Part u t → Part u (under_lifted at cs t)
+pub Part-lifted : {F : Type 0} (at : ℕ → Term F) (cs : List Factor) (u t : Term F) → Part u t → Part u (under_lifted at cs t)
 Part-lifted at [] u t p = p
 Part-lifted at (c ∷ cs) u t p = Part-lifted at cs u _ (in_mul_left p)
 
-pub Part-lifted_first : {F : Type 0} (at : ℕ → Term F) (cs : List ℕ) (i : ℕ) (t : Term F)
+pub Part-lifted_first : {F : Type 0} (at : ℕ → Term F) (cs : List Factor) (i : ℕ) (t : Term F)
     → Part (under_lifted at (take i cs) t) (under_lifted at cs t)
 Part-lifted_first at [] zero t = whole
 Part-lifted_first at [] (suc i) t = whole
 Part-lifted_first at (c ∷ cs) zero t = Part-lifted at (c ∷ cs) t t whole
 Part-lifted_first at (c ∷ cs) (suc i) t = Part-lifted_first at cs i _
+
+-- a power is a part of a higher one
+power-part : {F : Type 0} (one : F) (t : Term F) (i more : ℕ) → Part (power_term one t (suc i)) (power_term one t (suc (more + i)))
+power-part one t i zero = let is : suc i ≡ suc (0 + i) = omega arith in subst (λ n. Part (power_term one t (suc i)) (power_term one t n)) is whole
+power-part one t i (suc more) =
+    let is : suc (suc (more + i)) ≡ suc (suc more + i) = omega arith in
+    subst (λ n. Part (power_term one t (suc i)) (power_term one t n)) is (in_mul_left (power-part one t i more))
+
+pub Part-power : {F : Type 0} (one : F) (t : Term F) (i k : ℕ) → 1 ≤ i → i ≤ k → Part (power_term one t i) (power_term one t k)
+Part-power one t zero k lo hi = absurd (omega (arith, lo))
+Part-power one t (suc i) k lo hi =
+    let is : suc ((k - suc i) + i) ≡ k = omega (arith, hi) in
+    subst (λ n. Part (power_term one t (suc i)) (power_term one t n)) is (power-part one t i (k - suc i))
 
 -- the greatest degree of a list is no less than that of a part of it
 greatest-left : {F : Type 0} (w : Leaf → ℕ) (ts us : List (Term F)) → greatest_degree w ts ≤ greatest_degree w (ts ++ us)
@@ -119,9 +136,9 @@ greatest-step w term before (s ∷ ss) zero d lt =
     omega (arith, here, self, more)
 greatest-step w term before (s ∷ ss) (suc i) d lt = greatest-step w term (before ++ term (term_at before) s ∷ []) ss i d (omega arith)
 
-pub overflows_step : {F S : Type 0} (term : (ℕ → Term F) → S → Term F) (ss : List S) (i : ℕ) (s : S) → i < length ss → s ≡ get_or ss i s
+pub overflows_step : {F S : Type 0} (term : (ℕ → Term F) → S → Term F) (ss : List S) (i : ℕ) (d s : S) → i < length ss → s ≡ get_or ss i d
     → TermOverflows (term (term_at (terms_after term [] (take i ss))) s) → SomeOverflows (terms_after term [] ss)
-overflows_step term ss i s lt is h =
-    let within = greatest-step cached_weight term [] ss i s lt in
+overflows_step term ss i d s lt is h =
+    let within = greatest-step cached_weight term [] ss i d lt in
     let same = subst (λ x. TermOverflows (term (term_at (terms_after term [] (take i ss))) x)) is h in
     omega (arith, within, same)

@@ -7,9 +7,7 @@ use Rattle.air_field.specs.Term.{Term}
 use Rattle.air_builder.specs.Assertion.{Assertion, Base, Extension}
 use Rattle.air_builder.specs.laws.Zips.{AllZip-weaker}
 use Rattle.air_symbolic.specs.BaseLeaves.{base_reads, base_grows}
-use Rattle.air_symbolic.specs.ExtLeaves.{ext_reads}
-use Rattle.air_symbolic.specs.ExtPool.{ExtNodes, ExtGrown, BaseMeans}
-use Rattle.air_symbolic.specs.Pools.{IsPool, PoolMeans}
+use Rattle.air_symbolic.specs.ExtPool.{ExtNodes, ExtGrown}
 use Rattle.air_symbolic.specs.laws.BaseLeaves.{base_leaf_laws}
 use Rattle.air_symbolic.specs.laws.ExtPool.{ext_pool_laws}
 use Rattle.air_symbolic.specs.laws.Pools.{pool_laws}
@@ -18,28 +16,19 @@ use Rattle.air_audit.specs.declared.flat.root.Root.TheVariants as root
 use Rattle.air_draft.specs.DraftTerms.{claimed_term, under_conditions}
 use Rattle.air_draft.specs.ExtDraftTerms.{claimed_assertion}
 use Rattle.air_draft.specs.ExtRoots.{RootMeans}
+use Rattle.air_draft.specs.declared.claim.Factor.{Factor}
 use Rattle.air_draft.specs.declared.claim.Claimed.{Claimed}
 use Rattle.air_draft.specs.declared.claim.Claimed.TheVariants as claimed
 use Rattle.air_draft.specs.declared.claim.ExtClaimed.{ExtClaimed}
 
 -- what isn't claimed over the extension is asserted of base terms
-pub base_asserted : {F : Type 0} (one : F) (base at : ℕ → Term F) (factors : List ℕ) (c : Claimed) → ((x : ExtClaimed) → c ≡ claimed.Extension x → ⊥)
+pub base_asserted : {F : Type 0} (one : F) (base at : ℕ → Term F) (factors : List Factor) (c : Claimed) → ((x : ExtClaimed) → c ≡ claimed.Extension x → ⊥)
     → claimed_assertion one base at factors c ≡ Base (under_conditions base factors (claimed_term one base c))
 base_asserted one base at factors (claimed.Zero x) not = refl
 base_asserted one base at factors (claimed.One x) not = refl
 base_asserted one base at factors (claimed.Bool x) not = refl
 base_asserted one base at factors (claimed.Equal x y) not = refl
 base_asserted one base at factors (claimed.Extension x) not = absurd (not x refl)
-
--- what elements of the base pool mean, seen from that pool
-pub seen_from_base : {F EF : Type 0} (r : CommRing F) (basis : Basis F EF) (p : ExtNodes F EF) (xs : List ℕ) (ts : List (Term F))
-    → AllZip (BaseMeans r basis p) xs ts → AllZip (PoolMeans base_reads r p.base) xs ts
-seen_from_base r basis p xs ts h = AllZip-weaker (BaseMeans r basis p) (PoolMeans base_reads r p.base) (λ x t m. m.base) xs ts h
-
--- and seen from the pool over it
-pub base_meant : {F EF : Type 0} (r : CommRing F) (basis : Basis F EF) (p : ExtNodes F EF) (xs : List ℕ) (ts : List (Term F))
-    → IsPool (ext_reads basis) p → AllZip (PoolMeans base_reads r p.base) xs ts → AllZip (BaseMeans r basis p) xs ts
-base_meant r basis p xs ts is h = AllZip-weaker (PoolMeans base_reads r p.base) (BaseMeans r basis p) (λ x t m. record { pool = is; base = m }) xs ts h
 
 -- a root keeps what it means
 module _ {F EF : Type 0} {r : CommRing F} {over : AlgebraOver F EF} {basis : Basis F EF} {n : ℕ} (laws : ExtensionLaws r over basis n) where

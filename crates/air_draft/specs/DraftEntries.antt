@@ -8,6 +8,7 @@ use Rattle.air_core.specs.declared.errors.AirError.TheVariants.{Memory, CountOve
 use Rattle.air_core.specs.declared.boundary.BoundaryPublic.{BoundaryPublic}
 use Rattle.air_draft.specs.declared.step.Step.{Step}
 use Rattle.air_draft.specs.declared.claim.Claim.{Claim}
+use Rattle.air_draft.specs.declared.claim.Factor.{Factor}
 use Rattle.air_draft.specs.declared.draft.Draft.{Draft}
 use Rattle.air_draft.specs.declared.ext_step.ExtStep.{ExtStep}
 use Rattle.air_draft.specs.declared.ext_draft.ExtDraft.{ExtDraft}
@@ -26,8 +27,14 @@ pub record NotesFault {F : Type 0} (e : AirError) (a b : Draft F) : Type 0 where
   pub fault : b.fault ≡ Some (unwrap_or a.fault e)
   pub others : b ≡ record a { fault = b.fault }
 
+-- one constant more
+pub record WritesConstant {F : Type 0} (c : F) (a b : Draft F) : Type 0 where
+  pub constants : b.fault ≡ None → b.constants.items ≡ a.constants.items ++ c ∷ []
+  pub fault : NotesOnly Memory a.fault b.fault
+  pub others : b ≡ record a { constants = b.constants; fault = b.fault }
+
 -- one step more
-pub record WritesStep {F : Type 0} (s : Step F) (a b : Draft F) : Type 0 where
+pub record WritesStep {F : Type 0} (s : Step) (a b : Draft F) : Type 0 where
   pub steps : b.fault ≡ None → b.steps.items ≡ a.steps.items ++ s ∷ []
   pub fault : NotesOnly Memory a.fault b.fault
   pub others : b ≡ record a { steps = b.steps; fault = b.fault }
@@ -45,7 +52,7 @@ pub record WritesClaim {F : Type 0} (c : Claim) (a b : Draft F) : Type 0 where
   pub others : b ≡ record a { claims = b.claims; fault = b.fault }
 
 -- one condition more, which has these factors
-pub record WritesCondition {F : Type 0} (factors : List ℕ) (a b : Draft F) : Type 0 where
+pub record WritesCondition {F : Type 0} (factors : List Factor) (a b : Draft F) : Type 0 where
   pub conditions : b.fault ≡ None → OneMore (λ v. v.items ≡ factors) a.conditions.items b.conditions.items
   pub fault : NotesOnly Memory a.fault b.fault
   pub others : b ≡ record a { conditions = b.conditions; fault = b.fault }

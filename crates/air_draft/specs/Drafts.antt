@@ -1,5 +1,5 @@
 -- What the AIR of a draft declares.
-use Rattle.std.specs.Prelude.{◌≡◌, ◌⊎◌, ℕ, List, [], ◌++◌, map, Option, None, Some, String, slice_get, length}
+use Rattle.std.specs.Prelude.{◌≡◌, ◌⊎◌, ℕ, List, [], ◌++◌, map, Option, None, Some, String, slice_get, length, max}
 use Rattle.std.specs.Global.{Global}
 use Rattle.air_field.specs.Ring.{CommRing}
 use Rattle.air_field.specs.Term.{Term}
@@ -23,18 +23,22 @@ beside_of d = record {
   cells = d.boundary;
 }
 
+-- the terms of a draft's steps, in order
+abbrev pub draft_terms : {F : Type 0} → CommRing F → F → Draft F → List (Term F)
+draft_terms r one d = step_terms r one d.constants.items d.steps.items
+
 -- what each claim says to be zero, in order
-abbrev pub claim_terms : {F : Type 0} → F → Draft F → List (Term F)
-claim_terms one d = map (claim_term one (term_at (step_terms d.steps.items)) d.conditions.items) d.claims.items
+abbrev pub claim_terms : {F : Type 0} → CommRing F → F → Draft F → List (Term F)
+claim_terms r one d = map (claim_term one (term_at (draft_terms r one d)) d.conditions.items) d.claims.items
 
 -- the list that a draft declares: that each of these is zero
-abbrev pub declared_by : {F : Type 0} → F → Draft F → List (Assertion F)
-declared_by one d = map (λ t. Base t) (claim_terms one d)
+abbrev pub declared_by : {F : Type 0} → CommRing F → F → Draft F → List (Assertion F)
+declared_by r one d = map (λ t. Base t) (claim_terms r one d)
 
 -- a list of assertions records what a draft declares: at each place a term with the polynomial, the values and at most the
 -- degree of the draft's
 abbrev pub RecordsDraft : {F : Type 0} → CommRing F → F → Draft F → List (Assertion F) → Type 0
-RecordsDraft r one d constraints = RecordsBaseTerms r constraints (declared_by one d)
+RecordsDraft r one d constraints = RecordsBaseTerms r constraints (declared_by r one d)
 
 -- the text of a claim's label; it is empty where it has none
 abbrev pub claim_label : List (String Global) → Option ℕ → List ℕ
@@ -46,10 +50,14 @@ abbrev pub claim_labels : List (String Global) → List Claim → List (List ℕ
 claim_labels labels claims = map (λ c. claim_label labels c.label) claims
 
 -- a step or a claim of the draft has a degree past `usize`
-abbrev pub DraftOverflows : {F : Type 0} → F → Draft F → Type 0
-DraftOverflows one d = SomeOverflows (step_terms d.steps.items ++ claim_terms one d)
+abbrev pub DraftOverflows : {F : Type 0} → CommRing F → F → Draft F → Type 0
+DraftOverflows r one d = SomeOverflows (draft_terms r one d ++ claim_terms r one d)
+
+-- below this are the numbers of the draft's steps and the places of its constants
+abbrev pub number_bound : {F : Type 0} → Draft F → ℕ
+number_bound d = max (length d.steps.items) (length d.constants.items)
 
 -- Why a draft makes no AIR: what went wrong first while it was written. Only where nothing did, what the making of its
 -- expressions refuses.
-abbrev pub DraftRefuses : {F : Type 0} → F → Draft F → AirError → Type 0
-DraftRefuses one d e = (d.fault ≡ Some e) ⊎ ((d.fault ≡ None) × MakingRefuses (length d.steps.items) (DraftOverflows one d) e)
+abbrev pub DraftRefuses : {F : Type 0} → CommRing F → F → Draft F → AirError → Type 0
+DraftRefuses r one d e = (d.fault ≡ Some e) ⊎ ((d.fault ≡ None) × MakingRefuses (number_bound d) (DraftOverflows r one d) e)

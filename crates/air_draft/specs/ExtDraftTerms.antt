@@ -6,7 +6,8 @@ use Rattle.air_field.specs.Term.{Term, leaf_term, ext_const_term, add_term, sub_
 use Rattle.air_core.specs.ExtEntries.{ext_entry_leaf}
 use Rattle.air_builder.specs.Assertion.{Assertion, Base, Extension}
 use Rattle.air_builder.specs.Builders.{less_one_term}
-use Rattle.air_draft.specs.DraftTerms.{terms_after, claimed_term, under_conditions, factors_of}
+use Rattle.air_draft.specs.DraftTerms.{terms_after, claimed_term, factor_term, under_conditions, factors_of}
+use Rattle.air_draft.specs.declared.claim.Factor.{Factor}
 use Rattle.air_draft.specs.declared.claim.Claim.{Claim}
 use Rattle.air_draft.specs.declared.claim.Claimed.{Claimed}
 use Rattle.air_draft.specs.declared.claim.Claimed.TheVariants as claimed
@@ -42,17 +43,17 @@ ext_claimed_term one at (One x) = less_one_term one (at x)
 ext_claimed_term one at (Equal x y) = sub_term (at x) (at y)
 
 -- a term over the extension times the lifted factors of conditions, the innermost first, as filters multiply it
-abbrev pub under_lifted : {F : Type 0} → (ℕ → Term F) → List ℕ → Term F → Term F
+abbrev pub under_lifted : {F : Type 0} → (ℕ → Term F) → List Factor → Term F → Term F
 under_lifted at [] t = t
-under_lifted at (c ∷ cs) t = under_lifted at cs (mul_term t (at c))
+under_lifted at (c ∷ cs) t = under_lifted at cs (mul_term t (factor_term at c))
 
 -- what is asserted of a claim under conditions with these factors
-abbrev pub claimed_assertion : {F : Type 0} → F → (ℕ → Term F) → (ℕ → Term F) → List ℕ → Claimed → Assertion F
+abbrev pub claimed_assertion : {F : Type 0} → F → (ℕ → Term F) → (ℕ → Term F) → List Factor → Claimed → Assertion F
 claimed_assertion one base at factors (claimed.Extension c) = Extension (under_lifted base factors (ext_claimed_term one at c))
 claimed_assertion one base at factors c = Base (under_conditions base factors (claimed_term one base c))
 
 -- what a claim of either kind asserts
-abbrev pub claim_assertion : {F : Type 0} → F → (ℕ → Term F) → (ℕ → Term F) → List (Vec ℕ Global) → Claim → Assertion F
+abbrev pub claim_assertion : {F : Type 0} → F → (ℕ → Term F) → (ℕ → Term F) → List (Vec Factor Global) → Claim → Assertion F
 claim_assertion one base at conditions c = claimed_assertion one base at (factors_of conditions c.condition) c.claimed
 
 -- the term of an assertion

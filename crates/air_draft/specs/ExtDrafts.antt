@@ -8,22 +8,23 @@ use Rattle.air_builder.specs.Assertion.{Assertion, Base, Extension}
 use Rattle.air_core.specs.declared.errors.AirError.{AirError}
 use Rattle.air_core.specs.declared.errors.AirError.TheVariants.{RowOffset}
 use Rattle.air_recording.specs.Recorded.{RecordsTerm}
-use Rattle.air_draft.specs.DraftTerms.{step_terms, term_at}
+use Rattle.air_draft.specs.DraftTerms.{term_at}
+use Rattle.air_draft.specs.Drafts.{draft_terms, number_bound}
 use Rattle.air_draft.specs.Making.{MakingRefuses, SomeOverflows}
 use Rattle.air_draft.specs.ExtDraftTerms.{ext_step_terms, claim_assertion, asserted_term}
 use Rattle.air_draft.specs.declared.ext_draft.ExtDraft.{ExtDraft}
 
 -- the terms of the draft's base steps, and of those over the extension
-abbrev pub base_terms_of : {F EF : Type 0} → ExtDraft F EF → List (Term F)
-base_terms_of d = step_terms d.base.steps.items
+abbrev pub base_terms_of : {F EF : Type 0} → CommRing F → F → ExtDraft F EF → List (Term F)
+base_terms_of r one d = draft_terms r one d.base
 
-abbrev pub ext_terms_of : {F EF : Type 0} → Basis F EF → ExtDraft F EF → List (Term F)
-ext_terms_of basis d = ext_step_terms basis (term_at (base_terms_of d)) d.steps.items
+abbrev pub ext_terms_of : {F EF : Type 0} → CommRing F → F → Basis F EF → ExtDraft F EF → List (Term F)
+ext_terms_of r one basis d = ext_step_terms basis (term_at (base_terms_of r one d)) d.steps.items
 
 -- the list that a draft declares: what each claim asserts, in order
-abbrev pub ext_declared_by : {F EF : Type 0} → F → Basis F EF → ExtDraft F EF → List (Assertion F)
-ext_declared_by one basis d =
-    map (claim_assertion one (term_at (base_terms_of d)) (term_at (ext_terms_of basis d)) d.base.conditions.items) d.base.claims.items
+abbrev pub ext_declared_by : {F EF : Type 0} → CommRing F → F → Basis F EF → ExtDraft F EF → List (Assertion F)
+ext_declared_by r one basis d =
+    map (claim_assertion one (term_at (base_terms_of r one d)) (term_at (ext_terms_of r one basis d)) d.base.conditions.items) d.base.claims.items
 
 -- an assertion records another one of its kind: its term has the polynomial, the values and at most the degree of the
 -- other's, over the extension, and of base assertions over the base field too
@@ -34,12 +35,16 @@ RecordsAssertion r over _ _ = ⊥
 
 -- a list of assertions records what a draft declares, at each place
 abbrev pub RecordsExtDraft : {F EF : Type 0} → CommRing F → AlgebraOver F EF → F → Basis F EF → ExtDraft F EF → List (Assertion F) → Type 0
-RecordsExtDraft r over one basis d constraints = AllZip (RecordsAssertion r over) constraints (ext_declared_by one basis d)
+RecordsExtDraft r over one basis d constraints = AllZip (RecordsAssertion r over) constraints (ext_declared_by r one basis d)
 
 -- a step or a claim of the draft has a degree past `usize`
-abbrev pub ExtDraftOverflows : {F EF : Type 0} → F → Basis F EF → ExtDraft F EF → Type 0
-ExtDraftOverflows one basis d =
-    SomeOverflows (base_terms_of d ++ (ext_terms_of basis d ++ map asserted_term (ext_declared_by one basis d)))
+abbrev pub ExtDraftOverflows : {F EF : Type 0} → CommRing F → F → Basis F EF → ExtDraft F EF → Type 0
+ExtDraftOverflows r one basis d =
+    SomeOverflows (base_terms_of r one d ++ (ext_terms_of r one basis d ++ map asserted_term (ext_declared_by r one basis d)))
+
+-- below this are the numbers of the draft's steps of both kinds and the places of its constants
+abbrev pub ext_number_bound : {F EF : Type 0} → ExtDraft F EF → ℕ
+ext_number_bound d = max (number_bound d.base) (length d.steps.items)
 
 -- why expressions of a draft aren't made; a row of the permutation trace that no window has is refused too
 abbrev pub ExtMakingRefuses : ℕ → Type 0 → AirError → Type 0
@@ -48,8 +53,7 @@ ExtMakingRefuses n over e = MakingRefuses n over e
 
 -- Why a draft makes no AIR: what went wrong first while it was written. Only where nothing did, what the making of its
 -- expressions refuses.
-abbrev pub ExtDraftRefuses : {F EF : Type 0} → F → Basis F EF → ExtDraft F EF → AirError → Type 0
-ExtDraftRefuses one basis d e =
+abbrev pub ExtDraftRefuses : {F EF : Type 0} → CommRing F → F → Basis F EF → ExtDraft F EF → AirError → Type 0
+ExtDraftRefuses r one basis d e =
     (d.base.fault ≡ Some e)
-    ⊎ ((d.base.fault ≡ None)
-    × ExtMakingRefuses (max (length d.base.steps.items) (length d.steps.items)) (ExtDraftOverflows one basis d) e)
+    ⊎ ((d.base.fault ≡ None) × ExtMakingRefuses (ext_number_bound d) (ExtDraftOverflows r one basis d) e)

@@ -9,8 +9,8 @@ use Rattle.air_core.specs.declared.errors.AirError.{AirError}
 use Rattle.air_core.specs.declared.errors.AirError.TheVariants.{Memory, DegreeOverflow, IndexPastTotal}
 use Rattle.air_draft.specs.DraftTerms.{term_at}
 
--- Why expressions aren't made where the steps have numbers below n: memory; a degree past `usize`, where one may be; a
--- number that no step before has.
+-- Why expressions aren't made where what is named has numbers below n: memory; a degree past `usize`, where one may be; a
+-- number that nothing has.
 abbrev pub MakingRefuses : ℕ → Type 0 → AirError → Type 0
 MakingRefuses n over Memory = ⊤
 MakingRefuses n over DegreeOverflow = over

@@ -1,10 +1,10 @@
 //! The AIR that a draft makes.
 ghost use Rattle.std.specs.List.{AllZip};
-ghost use Rattle.std.specs.Prelude.{◌≡◌, length, map, None, IfOk, IfErr, string_bytes};
+ghost use Rattle.std.specs.Prelude.{◌≡◌, map, None, IfOk, IfErr, string_bytes};
 ghost use Rattle.air_symbolic.specs.BaseLeaves.{base_reads};
 ghost use Rattle.air_symbolic.specs.Pools.{PoolMeans};
 ghost use Rattle.air_draft.specs.Making.{MakingRefuses};
-ghost use Rattle.air_draft.specs.Drafts.{beside_of, claim_terms, RecordsDraft, claim_label, claim_labels, DraftOverflows, DraftRefuses};
+ghost use Rattle.air_draft.specs.Drafts.{beside_of, claim_terms, RecordsDraft, claim_label, claim_labels, DraftOverflows, number_bound, DraftRefuses};
 
 use crate::claim::Claim;
 use crate::draft::Draft;
@@ -58,15 +58,15 @@ impl<F: Field> Draft<F> {
     // The expressions and labels of its claims.
     fn make(&self) -> Result<Made<F>, AirError>
         ensures means { IfOk result (λ m. AllZip (PoolMeans base_reads F.ring m.pool)
-            m.roots.items (claim_terms F.ONE self.now)) }
+            m.roots.items (claim_terms F.ring F.ONE self.now)) }
         ensures labels { IfOk result (λ m. map string_bytes m.labels.items
             ≡ claim_labels self.now.labels.items self.now.claims.items) }
-        ensures refused { IfErr result (MakingRefuses (length self.now.steps.items)
-            (DraftOverflows F.ONE self.now)) }
+        ensures refused { IfErr result (MakingRefuses (number_bound self.now)
+            (DraftOverflows F.ring F.ONE self.now)) }
     {
         let alloc = *self.steps.allocator();
         let mut pool = ExprPool::new(alloc);
-        let made = make_steps(alloc, &mut pool, &self.steps)?;
+        let made = make_steps(alloc, &mut pool, &self.constants, &self.steps)?;
         let roots = make_roots(alloc, &mut pool, &made, &self.conditions, &self.claims)?;
         let labels = claim_labels(alloc, &self.labels, &self.claims)?;
         Ok(Made {
@@ -78,7 +78,7 @@ impl<F: Field> Draft<F> {
 
     /// The AIR that declares what the draft claims, in order: a claim under conditions times their factors.
     ///
-    /// Refused are what went wrong first while it was written, a number that no step has (`IndexPastTotal`), a degree
+    /// Refused are what went wrong first while it was written, a number that no step or constant has (`IndexPastTotal`), a degree
     /// past `usize` (`DegreeOverflow`), and `Memory`.
     pub fn into_air(self) -> Result<FlatAir<F>, AirError>
         ensures records { IfOk result (λ a. RecordsDraft F.ring F.ONE self
@@ -87,7 +87,7 @@ impl<F: Field> Draft<F> {
         ensures labels { IfOk result (λ a. map string_bytes a.labels.items
             ≡ claim_labels self.labels.items self.claims.items) }
         ensures faultless { IfOk result (λ _. self.fault ≡ None) }
-        ensures refused { IfErr result (DraftRefuses F.ONE self) }
+        ensures refused { IfErr result (DraftRefuses F.ring F.ONE self) }
     {
         if let Some(error) = self.fault {
             return Err(error);

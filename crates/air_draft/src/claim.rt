@@ -21,6 +21,22 @@ pub enum Claimed {
     Extension(ExtClaimed),
 }
 
+/// A factor of a condition: a claim under it holds only where the factor isn't zero. Expressions are named by the numbers
+/// of their steps.
+#[derive(Clone, Copy, Debug, PartialEq, Eq)]
+pub enum Factor {
+    /// The selector of the first row.
+    FirstRow,
+    /// The selector of the last row.
+    LastRow,
+    /// The selector of all rows but the last.
+    Transition,
+    /// An expression.
+    Nonzero(usize),
+    /// The difference x - y.
+    Different(usize, usize),
+}
+
 /// A claim: what is claimed, where and under which label.
 #[derive(Clone, Copy, Debug, PartialEq, Eq)]
 pub struct Claim {

@@ -3,9 +3,9 @@ ghost use Rattle.std.specs.Prelude.{◌≡◌, ◌∷◌, [], length, map, None,
 ghost use Rattle.air_field.specs.Ring.{image};
 ghost use Rattle.air_core.specs.Texts.{element_text};
 ghost use Rattle.air_draft.specs.DraftTerms.{factors_of};
-ghost use Rattle.air_draft.specs.DraftEntries.{NotesFault, WritesStep, WritesClaim, WritesCondition, WritesLabel, label_text, AddsColumns, AddsPeriodic, AddsBoundary};
+ghost use Rattle.air_draft.specs.DraftEntries.{NotesFault, WritesConstant, WritesStep, WritesClaim, WritesCondition, WritesLabel, label_text, AddsColumns, AddsPeriodic, AddsBoundary};
 
-use crate::claim::Claim;
+use crate::claim::{Claim, Factor};
 use crate::step::Step;
 use air_core::AirError;
 use air_core::boundary::BoundaryPublic;
@@ -25,10 +25,12 @@ pub struct Draft<F: Field> {
     pub periodic: Vec<Vec<F>>,
     /// The boundary values.
     pub boundary: Vec<BoundaryPublic>,
+    /// The constants of the field that steps name by their places here.
+    pub constants: Vec<F>,
     /// The expressions: each is known by the number of its step.
-    pub steps: Vec<Step<F>>,
-    /// The conditions of claims: each lists the numbers of its factors, the innermost first.
-    pub conditions: Vec<Vec<usize>>,
+    pub steps: Vec<Step>,
+    /// The conditions of claims: each lists its factors, the innermost first.
+    pub conditions: Vec<Vec<Factor>>,
     pub labels: Vec<String>,
     pub claims: Vec<Claim>,
     /// What went wrong first, if anything did.
@@ -43,6 +45,7 @@ impl<F: Field> Draft<F> {
         ensures preprocessed { result.preprocessed ≡ None }
         ensures periodic { result.periodic.items ≡ [] }
         ensures boundary { result.boundary.items ≡ [] }
+        ensures constants { result.constants.items ≡ [] }
         ensures steps { result.steps.items ≡ [] }
         ensures conditions { result.conditions.items ≡ [] }
         ensures labels { result.labels.items ≡ [] }
@@ -55,6 +58,7 @@ impl<F: Field> Draft<F> {
             preprocessed: None,
             periodic: Vec::new(alloc),
             boundary: Vec::new(alloc),
+            constants: Vec::new(alloc),
             steps: Vec::new(alloc),
             conditions: Vec::new(alloc),
             labels: Vec::new(alloc),
@@ -72,8 +76,20 @@ impl<F: Field> Draft<F> {
         }
     }
 
+    /// Writes a constant of the field down and answers its place among them.
+    pub fn constant(&mut self, c: F) -> usize
+        ensures place { result ≡ length self.old.constants.items }
+        ensures written { WritesConstant c self.old self.new }
+    {
+        let place = self.constants.len();
+        if self.constants.push(c).is_err() {
+            self.fail(AirError::Memory);
+        }
+        place
+    }
+
     /// Writes a step down and answers its number.
-    pub fn step(&mut self, step: Step<F>) -> usize
+    pub fn step(&mut self, step: Step) -> usize
         ensures number { result ≡ length self.old.steps.items }
         ensures written { WritesStep step self.old self.new }
     {
@@ -94,7 +110,7 @@ impl<F: Field> Draft<F> {
     }
 
     // The factors of a condition under another one, if there is one.
-    fn factors_under(&self, outer: Option<usize>, factor: usize) -> Result<Vec<usize>, AllocError>
+    fn factors_under(&self, outer: Option<usize>, factor: Factor) -> Result<Vec<Factor>, AllocError>
         ensures { IfOk result (λ v. v.items ≡ factor ∷ factors_of self.now.conditions.items outer) }
     {
         let mut factors = Vec::new(*self.conditions.allocator());
@@ -108,7 +124,7 @@ impl<F: Field> Draft<F> {
     }
 
     /// Writes a condition down, under an outer one if there is one, and answers its number.
-    pub fn condition(&mut self, outer: Option<usize>, factor: usize) -> usize
+    pub fn condition(&mut self, outer: Option<usize>, factor: Factor) -> usize
         ensures number { result ≡ length self.old.conditions.items }
         ensures written { WritesCondition (factor ∷ factors_of self.old.conditions.items outer)
             self.old self.new }

@@ -1,12 +1,12 @@
 //! The AIR that a draft with constraints over an extension makes.
 ghost use Rattle.std.specs.List.{AllZip};
-ghost use Rattle.std.specs.Prelude.{◌≡◌, length, map, max, None, IfOk, IfErr, string_bytes};
+ghost use Rattle.std.specs.Prelude.{◌≡◌, map, None, IfOk, IfErr, string_bytes};
 ghost use Rattle.air_symbolic.specs.ExtLeaves.{ext_reads};
 ghost use Rattle.air_symbolic.specs.Pools.{IsPool};
 ghost use Rattle.air_draft.specs.Making.{MakingRefuses};
 ghost use Rattle.air_draft.specs.Drafts.{beside_of, claim_labels};
 ghost use Rattle.air_draft.specs.ExtRoots.{RootMeans};
-ghost use Rattle.air_draft.specs.ExtDrafts.{ext_declared_by, RecordsExtDraft, ExtDraftOverflows, ExtDraftRefuses};
+ghost use Rattle.air_draft.specs.ExtDrafts.{ext_declared_by, RecordsExtDraft, ExtDraftOverflows, ext_number_bound, ExtDraftRefuses};
 
 use crate::air::claim_labels;
 use crate::draft::Draft;
@@ -32,17 +32,21 @@ impl<F: Field, EF: ExtensionField<F>> ExtDraft<F, EF> {
     fn make(&self) -> Result<Made<F, EF>, AirError>
         ensures pool { IfOk result (λ m. IsPool (ext_reads EF.basis) m.pool) }
         ensures means { IfOk result (λ m. AllZip (RootMeans F.ring EF.basis m.pool) m.roots.items
-            (ext_declared_by F.ONE EF.basis self.now)) }
+            (ext_declared_by F.ring F.ONE EF.basis self.now)) }
         ensures labels { IfOk result (λ m. map string_bytes m.labels.items
             ≡ claim_labels self.now.base.labels.items self.now.base.claims.items) }
-        ensures refused { IfErr result (MakingRefuses
-            (max (length self.now.base.steps.items) (length self.now.steps.items))
-            (ExtDraftOverflows F.ONE EF.basis self.now)) }
+        ensures refused { IfErr result (MakingRefuses (ext_number_bound self.now)
+            (ExtDraftOverflows F.ring F.ONE EF.basis self.now)) }
     {
         let alloc = *self.steps.allocator();
         let (conditions, claims) = (&self.base.conditions, &self.base.claims);
         let mut pool = ExprPool::new(alloc);
-        let base = make_steps(alloc, pool.base_mut(), &self.base.steps)?;
+        let base = make_steps(
+            alloc,
+            pool.base_mut(),
+            &self.base.constants,
+            &self.base.steps,
+        )?;
         let made = make_ext_steps(alloc, &mut pool, &base, &self.steps)?;
         let roots = make_any_roots(alloc, &mut pool, &base, &made, conditions, claims)?;
         let labels = claim_labels(alloc, &self.base.labels, claims)?;
@@ -56,7 +60,7 @@ impl<F: Field, EF: ExtensionField<F>> ExtDraft<F, EF> {
     /// The AIR that declares what the draft claims, in order, base and extension claims as they were written: a base claim
     /// under conditions times their factors, one over the extension times the lifted factors.
     ///
-    /// Refused are what went wrong first while it was written, a number that no step has (`IndexPastTotal`), a degree
+    /// Refused are what went wrong first while it was written, a number that no step or constant has (`IndexPastTotal`), a degree
     /// past `usize` (`DegreeOverflow`), a row of the permutation trace past the next (`RowOffset`), and `Memory`.
     pub fn into_air(self) -> Result<FlatExtAir<F, EF>, AirError>
         ensures records { IfOk result (λ a. RecordsExtDraft F.ring EF.over F.ONE EF.basis self
@@ -65,7 +69,7 @@ impl<F: Field, EF: ExtensionField<F>> ExtDraft<F, EF> {
         ensures labels { IfOk result (λ a. map string_bytes a.labels.items
             ≡ claim_labels self.base.labels.items self.base.claims.items) }
         ensures faultless { IfOk result (λ _. self.base.fault ≡ None) }
-        ensures refused { IfErr result (ExtDraftRefuses F.ONE EF.basis self) }
+        ensures refused { IfErr result (ExtDraftRefuses F.ring F.ONE EF.basis self) }
     {
         if let Some(error) = self.base.fault {
             return Err(error);

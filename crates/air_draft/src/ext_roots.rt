@@ -2,21 +2,23 @@
 ghost use Rattle.std.specs.Prelude.{ℕ, List, length, map, max, All, IfOk, IfErr};
 ghost use Rattle.std.specs.List.{AllZip};
 ghost use Rattle.air_field.specs.Term.{Term};
-ghost use Rattle.air_field.specs.declared.errors.RingError.TheVariants.{DegreeOverflow};
 ghost use Rattle.air_symbolic.specs.ExtLeaves.{ext_reads, ext_grows};
 ghost use Rattle.air_symbolic.specs.ExtPool.{BaseHas, BaseMeans};
 ghost use Rattle.air_symbolic.specs.Pools.{IsPool, PoolHas, PoolMeans, Grown};
 ghost use Rattle.air_draft.specs.DraftTerms.{term_at};
 ghost use Rattle.air_draft.specs.Making.{MakingRefuses, TermOverflows, SomeOverflows, MadeAt, RefusedAt};
-ghost use Rattle.air_draft.specs.ExtDraftTerms.{ext_claimed_term, under_lifted, claimed_assertion, claim_assertion, asserted_term};
+ghost use Rattle.air_draft.specs.ExtDraftTerms.{ext_claimed_term, claimed_assertion, claim_assertion, asserted_term};
 ghost use Rattle.air_draft.specs.ExtRoots.{RootMeans};
 
-use crate::claim::{Claim, Claimed, ExtClaimed};
-use crate::numbered::{difference_of, element, found, less_one_of};
-use crate::roots::{factors_of, make_root};
+use crate::claim::{Claim, Claimed, ExtClaimed, Factor};
+use crate::ext_factors::make_ext_under;
+use crate::factors::factors_of;
+use crate::numbered::{difference_of, element, less_one_of};
+use crate::roots::make_root;
+use crate::step::Operand;
 use air_audit::Root;
 use air_core::AirError;
-use air_field::{Algebra, ExtAlgebra, ExtensionField, Field};
+use air_field::{Algebra, ExtensionField, Field};
 use air_symbolic::{BaseLeaf, ExprId, ExprPool, ExtLeaf};
 use std::alloc::Global;
 
@@ -37,36 +39,8 @@ fn make_ext_claimed<F: Field, R: Algebra<F>>(
     match claimed {
         ExtClaimed::Zero(x) => element(ring, made, x),
         ExtClaimed::One(x) => less_one_of(ring, made, x),
-        ExtClaimed::Equal(x, y) => difference_of(ring, made, x, y),
+        ExtClaimed::Equal(x, y) => difference_of(ring, made, Operand::Step(x), Operand::Step(y)),
     }
-}
-
-/// An expression over the extension times its conditions' lifted factors, the innermost first.
-fn make_ext_under<F: Field, EF: ExtensionField<F>, R: ExtAlgebra<F, EF>>(
-    ring: &mut R,
-    base: &[R::Base],
-    factors: &[usize],
-    x: R::Elem,
-) -> Result<R::Elem, AirError>
-    requires valid { R.valid ring.old }
-    requires base_in { All (R.base_has ring.old) base.now }
-    requires x_in { R.has ring.old x }
-    ensures extended { R.extends ring.old ring.new }
-    ensures made { IfOk result (λ z. R.has ring.new z × ((bs : List (Term F)) (t : Term F) →
-        AllZip (R.base_means ring.old) base.now bs → R.means ring.old x t →
-        R.means ring.new z (under_lifted (term_at bs) factors.now t))) }
-    ensures refused { IfErr result (λ e. (bs : List (Term F)) (t : Term F) →
-        AllZip (R.base_means ring.old) base.now bs → R.means ring.old x t →
-        MakingRefuses (length base.now)
-        (R.refuses DegreeOverflow (under_lifted (term_at bs) factors.now t)) e) }
-{
-    let mut product = x;
-    for factor in factors {
-        let factor = found(base, *factor)?;
-        let lifted = ring.lift(factor)?;
-        product = ring.mul(product, lifted)?;
-    }
-    Ok(product)
 }
 
 /// The expression that a claim of either kind says to be zero.
@@ -74,7 +48,7 @@ fn make_any_root<F: Field, EF: ExtensionField<F>>(
     pool: &mut ExprPool<ExtLeaf<F, EF>>,
     base: &[ExprId<BaseLeaf<F>>],
     made: &[ExprId<ExtLeaf<F, EF>>],
-    factors: &[usize],
+    factors: &[Factor],
     claimed: Claimed,
 ) -> Result<Root<F, EF>, AirError>
     requires pool { IsPool (ext_reads EF.basis) pool.old }
@@ -112,7 +86,7 @@ pub(crate) fn make_any_roots<F: Field, EF: ExtensionField<F>>(
     pool: &mut ExprPool<ExtLeaf<F, EF>>,
     base: &[ExprId<BaseLeaf<F>>],
     made: &[ExprId<ExtLeaf<F, EF>>],
-    conditions: &[Vec<usize>],
+    conditions: &[Vec<Factor>],
     claims: &[Claim],
 ) -> Result<Vec<Root<F, EF>>, AirError>
     requires pool { IsPool (ext_reads EF.basis) pool.old }

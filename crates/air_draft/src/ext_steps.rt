@@ -11,6 +11,7 @@ ghost use Rattle.air_draft.specs.ExtDraftTerms.{ext_step_term, ext_step_terms};
 
 use crate::ext_step::ExtStep;
 use crate::numbered::{difference_of, found, negative_of, product_of, sum_of};
+use crate::step::Operand;
 use air_core::AirError;
 use air_field::{ExtensionField, Field};
 use air_symbolic::{BaseLeaf, ExprId, ExprPool, ExtLeaf};
@@ -45,10 +46,10 @@ fn make_ext_step<F: Field, EF: ExtensionField<F>>(
         }
         ExtStep::Variable(v) => Ok(pool.variable(v)?),
         ExtStep::Constant(c) => Ok(pool.ext_constant(c)?),
-        ExtStep::Add(x, y) => sum_of(pool, made, x, y),
-        ExtStep::Sub(x, y) => difference_of(pool, made, x, y),
+        ExtStep::Add(x, y) => sum_of(pool, made, Operand::Step(x), Operand::Step(y)),
+        ExtStep::Sub(x, y) => difference_of(pool, made, Operand::Step(x), Operand::Step(y)),
         ExtStep::Neg(x) => negative_of(pool, made, x),
-        ExtStep::Mul(x, y) => product_of(pool, made, x, y),
+        ExtStep::Mul(x, y) => product_of(pool, made, Operand::Step(x), Operand::Step(y)),
     }
 }
 

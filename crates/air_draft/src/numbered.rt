@@ -1,10 +1,16 @@
 //! What is made of elements that are known by their numbers.
-ghost use Rattle.std.specs.Prelude.{◌≡◌, length, slice_get, All, Some, IfOk, IfErr};
-ghost use Rattle.air_field.specs.Term.{add_term, sub_term, neg_term, mul_term};
-ghost use Rattle.air_field.specs.Algebra.{bool_check_term};
+ghost use Rattle.std.specs.Prelude.{◌≡◌, List, length, slice_get, All, Some, IfOk, IfErr};
+ghost use Rattle.std.specs.List.{AllZip};
+ghost use Rattle.air_field.specs.Term.{Term, add_term, sub_term, neg_term, mul_term};
+ghost use Rattle.air_field.specs.Algebra.{bool_check_term, xor_term, andn_term};
+ghost use Rattle.air_field.specs.Part.{Part};
+ghost use Rattle.air_field.specs.declared.errors.RingError.TheVariants.{DegreeOverflow};
 ghost use Rattle.air_builder.specs.Builders.{less_one_term};
+ghost use Rattle.air_draft.specs.DraftTerms.{term_at, operand_term, power_term};
 ghost use Rattle.air_draft.specs.Making.{MakingRefuses, MadeAt, RefusedAt};
 
+use crate::elements::power_from;
+use crate::step::Operand;
 use air_core::AirError;
 use air_field::{Algebra, Field};
 
@@ -36,61 +42,107 @@ pub(crate) fn element<F: Field, R: Algebra<F>>(
     found(made, number)
 }
 
-/// x + y
-pub(crate) fn sum_of<F: Field, R: Algebra<F>>(
+/// The element of an operand.
+fn operand<F: Field, R: Algebra<F>>(
     ring: &mut R,
     made: &[R::Elem],
-    x: usize,
-    y: usize,
+    x: Operand,
 ) -> Result<R::Elem, AirError>
     requires valid { R.valid ring.old }
     requires all_in { All (R.has ring.old) made.now }
     ensures extended { R.extends ring.old ring.new }
     ensures made { IfOk result (MadeAt R.has R.means ring.old ring.new made.now
-        (λ at. add_term (at x) (at y))) }
+        (λ at. operand_term F.ring at x)) }
     ensures refused { IfErr result (RefusedAt R.means R.refuses ring.old made.now
-        (λ at. add_term (at x) (at y))) }
+        (λ at. operand_term F.ring at x)) }
 {
-    let (x, y) = (element(ring, made, x)?, element(ring, made, y)?);
-    Ok(ring.add(x, y)?)
+    match x {
+        Operand::Step(number) => element(ring, made, number),
+        Operand::Number(n) => Ok(ring.constant(F::from_u64(n))?),
+    }
+}
+
+/// The elements of two operands, the left one first.
+fn operands<F: Field, R: Algebra<F>>(
+    ring: &mut R,
+    made: &[R::Elem],
+    x: Operand,
+    y: Operand,
+) -> Result<(R::Elem, R::Elem), AirError>
+    requires valid { R.valid ring.old }
+    requires all_in { All (R.has ring.old) made.now }
+    ensures extended { R.extends ring.old ring.new }
+    ensures here { IfOk result (λ p. R.has ring.new p.0 × R.has ring.new p.1) }
+    ensures made { IfOk result (λ p. (ts : List (Term F)) →
+        AllZip (R.means ring.old) made.now ts →
+        R.means ring.new p.0 (operand_term F.ring (term_at ts) x)
+        × R.means ring.new p.1 (operand_term F.ring (term_at ts) y)) }
+    // whatever both operands are parts of is refused
+    ensures refused { IfErr result (λ e. (ts : List (Term F)) (t : Term F) →
+        AllZip (R.means ring.old) made.now ts → Part (operand_term F.ring (term_at ts) x) t →
+        Part (operand_term F.ring (term_at ts) y) t →
+        MakingRefuses (length made.now) (R.refuses DegreeOverflow t) e) }
+{
+    let x = operand(ring, made, x)?;
+    let y = operand(ring, made, y)?;
+    Ok((x, y))
+}
+
+/// x + y
+pub(crate) fn sum_of<F: Field, R: Algebra<F>>(
+    ring: &mut R,
+    made: &[R::Elem],
+    x: Operand,
+    y: Operand,
+) -> Result<R::Elem, AirError>
+    requires valid { R.valid ring.old }
+    requires all_in { All (R.has ring.old) made.now }
+    ensures extended { R.extends ring.old ring.new }
+    ensures made { IfOk result (MadeAt R.has R.means ring.old ring.new made.now
+        (λ at. add_term (operand_term F.ring at x) (operand_term F.ring at y))) }
+    ensures refused { IfErr result (RefusedAt R.means R.refuses ring.old made.now
+        (λ at. add_term (operand_term F.ring at x) (operand_term F.ring at y))) }
+{
+    let (left, right) = operands(ring, made, x, y)?;
+    Ok(ring.add(left, right)?)
 }
 
 /// x - y
 pub(crate) fn difference_of<F: Field, R: Algebra<F>>(
     ring: &mut R,
     made: &[R::Elem],
-    x: usize,
-    y: usize,
+    x: Operand,
+    y: Operand,
 ) -> Result<R::Elem, AirError>
     requires valid { R.valid ring.old }
     requires all_in { All (R.has ring.old) made.now }
     ensures extended { R.extends ring.old ring.new }
     ensures made { IfOk result (MadeAt R.has R.means ring.old ring.new made.now
-        (λ at. sub_term (at x) (at y))) }
+        (λ at. sub_term (operand_term F.ring at x) (operand_term F.ring at y))) }
     ensures refused { IfErr result (RefusedAt R.means R.refuses ring.old made.now
-        (λ at. sub_term (at x) (at y))) }
+        (λ at. sub_term (operand_term F.ring at x) (operand_term F.ring at y))) }
 {
-    let (x, y) = (element(ring, made, x)?, element(ring, made, y)?);
-    Ok(ring.sub(x, y)?)
+    let (left, right) = operands(ring, made, x, y)?;
+    Ok(ring.sub(left, right)?)
 }
 
 /// x y
 pub(crate) fn product_of<F: Field, R: Algebra<F>>(
     ring: &mut R,
     made: &[R::Elem],
-    x: usize,
-    y: usize,
+    x: Operand,
+    y: Operand,
 ) -> Result<R::Elem, AirError>
     requires valid { R.valid ring.old }
     requires all_in { All (R.has ring.old) made.now }
     ensures extended { R.extends ring.old ring.new }
     ensures made { IfOk result (MadeAt R.has R.means ring.old ring.new made.now
-        (λ at. mul_term (at x) (at y))) }
+        (λ at. mul_term (operand_term F.ring at x) (operand_term F.ring at y))) }
     ensures refused { IfErr result (RefusedAt R.means R.refuses ring.old made.now
-        (λ at. mul_term (at x) (at y))) }
+        (λ at. mul_term (operand_term F.ring at x) (operand_term F.ring at y))) }
 {
-    let (x, y) = (element(ring, made, x)?, element(ring, made, y)?);
-    Ok(ring.mul(x, y)?)
+    let (left, right) = operands(ring, made, x, y)?;
+    Ok(ring.mul(left, right)?)
 }
 
 /// -x
@@ -109,6 +161,63 @@ pub(crate) fn negative_of<F: Field, R: Algebra<F>>(
 {
     let x = element(ring, made, x)?;
     Ok(ring.neg(x)?)
+}
+
+/// The k-th power of x.
+pub(crate) fn power_of<F: Field, R: Algebra<F>>(
+    ring: &mut R,
+    made: &[R::Elem],
+    x: usize,
+    k: u32,
+) -> Result<R::Elem, AirError>
+    requires valid { R.valid ring.old }
+    requires all_in { All (R.has ring.old) made.now }
+    ensures extended { R.extends ring.old ring.new }
+    ensures made { IfOk result (MadeAt R.has R.means ring.old ring.new made.now
+        (λ at. power_term F.ONE (at x) k)) }
+    ensures refused { IfErr result (RefusedAt R.means R.refuses ring.old made.now
+        (λ at. power_term F.ONE (at x) k)) }
+{
+    let x = element(ring, made, x)?;
+    Ok(power_from(ring, x, k)?)
+}
+
+/// (x + y) - (xy + xy)
+pub(crate) fn xor_of<F: Field, R: Algebra<F>>(
+    ring: &mut R,
+    made: &[R::Elem],
+    x: usize,
+    y: usize,
+) -> Result<R::Elem, AirError>
+    requires valid { R.valid ring.old }
+    requires all_in { All (R.has ring.old) made.now }
+    ensures extended { R.extends ring.old ring.new }
+    ensures made { IfOk result (MadeAt R.has R.means ring.old ring.new made.now
+        (λ at. xor_term (at x) (at y))) }
+    ensures refused { IfErr result (RefusedAt R.means R.refuses ring.old made.now
+        (λ at. xor_term (at x) (at y))) }
+{
+    let (x, y) = (element(ring, made, x)?, element(ring, made, y)?);
+    Ok(ring.xor(x, y)?)
+}
+
+/// (1 - x) y
+pub(crate) fn and_not_of<F: Field, R: Algebra<F>>(
+    ring: &mut R,
+    made: &[R::Elem],
+    x: usize,
+    y: usize,
+) -> Result<R::Elem, AirError>
+    requires valid { R.valid ring.old }
+    requires all_in { All (R.has ring.old) made.now }
+    ensures extended { R.extends ring.old ring.new }
+    ensures made { IfOk result (MadeAt R.has R.means ring.old ring.new made.now
+        (λ at. andn_term F.ONE (at x) (at y))) }
+    ensures refused { IfErr result (RefusedAt R.means R.refuses ring.old made.now
+        (λ at. andn_term F.ONE (at x) (at y))) }
+{
+    let (x, y) = (element(ring, made, x)?, element(ring, made, y)?);
+    Ok(ring.andn(x, y)?)
 }
 
 /// x (x - 1)

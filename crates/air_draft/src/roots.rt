@@ -1,15 +1,17 @@
 //! The expressions of a draft's claims, made in the pool of its steps.
-ghost use Rattle.std.specs.Prelude.{◌≡◌, ℕ, List, length, slice_get, map, All, Some, IfOk, IfErr};
+ghost use Rattle.std.specs.Prelude.{◌≡◌, ℕ, List, length, map, All, IfOk, IfErr};
 ghost use Rattle.std.specs.List.{AllZip};
 ghost use Rattle.air_field.specs.Term.{Term};
-ghost use Rattle.air_draft.specs.DraftTerms.{term_at, claimed_term, under_conditions, factors_of, claim_term};
+ghost use Rattle.air_draft.specs.DraftTerms.{term_at, claimed_term, under_conditions, claim_term};
 ghost use Rattle.air_draft.specs.Making.{MakingRefuses, SomeOverflows, MadeAt, RefusedAt};
-ghost use Rattle.air_field.specs.declared.errors.RingError.TheVariants.{DegreeOverflow};
 ghost use Rattle.air_symbolic.specs.BaseLeaves.{base_reads, base_grows};
+ghost use Rattle.air_symbolic.specs.PoolRefusals.{PoolRefuses};
 ghost use Rattle.air_symbolic.specs.Pools.{IsPool, PoolHas, PoolMeans, Grown};
 
-use crate::claim::{Claim, Claimed};
-use crate::numbered::{bool_check_of, difference_of, element, found, less_one_of};
+use crate::claim::{Claim, Claimed, Factor};
+use crate::factors::{factors_of, make_under};
+use crate::numbered::{bool_check_of, difference_of, element, less_one_of};
+use crate::step::Operand;
 use air_core::AirError;
 use air_field::{Algebra, Field};
 use air_symbolic::{BaseLeaf, ExprId, ExprPool};
@@ -33,7 +35,7 @@ fn make_claimed<F: Field, R: Algebra<F>>(
         Claimed::Zero(x) => element(ring, made, x),
         Claimed::One(x) => less_one_of(ring, made, x),
         Claimed::Bool(x) => bool_check_of(ring, made, x),
-        Claimed::Equal(x, y) => difference_of(ring, made, x, y),
+        Claimed::Equal(x, y) => difference_of(ring, made, Operand::Step(x), Operand::Step(y)),
         Claimed::Extension(of) => Err(AirError::IndexPastTotal {
             index: of.first_operand(),
             total: 0,
@@ -41,63 +43,23 @@ fn make_claimed<F: Field, R: Algebra<F>>(
     }
 }
 
-/// An expression times its conditions' factors, the innermost first.
-fn make_under<F: Field, R: Algebra<F>>(
-    ring: &mut R,
-    made: &[R::Elem],
-    factors: &[usize],
-    x: R::Elem,
-) -> Result<R::Elem, AirError>
-    requires valid { R.valid ring.old }
-    requires all_in { All (R.has ring.old) made.now }
-    requires x_in { R.has ring.old x }
-    ensures extended { R.extends ring.old ring.new }
-    ensures made { IfOk result (λ z. R.has ring.new z × ((ts : List (Term F)) (t : Term F) →
-        AllZip (R.means ring.old) made.now ts → R.means ring.old x t →
-        R.means ring.new z (under_conditions (term_at ts) factors.now t))) }
-    ensures refused { IfErr result (λ e. (ts : List (Term F)) (t : Term F) →
-        AllZip (R.means ring.old) made.now ts → R.means ring.old x t →
-        MakingRefuses (length made.now)
-        (R.refuses DegreeOverflow (under_conditions (term_at ts) factors.now t)) e) }
-{
-    let mut product = x;
-    for factor in factors {
-        let factor = found(made, *factor)?;
-        product = ring.mul(factor, product)?;
-    }
-    Ok(product)
-}
-
-/// The factors of a condition; none has none.
-pub(crate) fn factors_of(conditions: &[Vec<usize>], condition: Option<usize>) -> &[usize]
-    ensures { result.now ≡ factors_of conditions.now condition }
-{
-    match condition {
-        Some(number) => match conditions.get(number) {
-            Some(factors) => factors,
-            None => &[],
-        },
-        None => &[],
-    }
-}
-
 /// The expression that a claim says to be zero: what it claims, times its conditions' factors.
-pub(crate) fn make_root<F: Field, R: Algebra<F>>(
-    ring: &mut R,
-    made: &[R::Elem],
-    factors: &[usize],
+pub(crate) fn make_root<F: Field>(
+    pool: &mut ExprPool<BaseLeaf<F>>,
+    made: &[ExprId<BaseLeaf<F>>],
+    factors: &[Factor],
     claimed: Claimed,
-) -> Result<R::Elem, AirError>
-    requires valid { R.valid ring.old }
-    requires all_in { All (R.has ring.old) made.now }
-    ensures extended { R.extends ring.old ring.new }
-    ensures made { IfOk result (MadeAt R.has R.means ring.old ring.new made.now
-        (λ at. under_conditions at factors.now (claimed_term F.ONE at claimed))) }
-    ensures refused { IfErr result (RefusedAt R.means R.refuses ring.old made.now
-        (λ at. under_conditions at factors.now (claimed_term F.ONE at claimed))) }
+) -> Result<ExprId<BaseLeaf<F>>, AirError>
+    requires pool { IsPool base_reads pool.old }
+    requires all_in { All (PoolHas base_reads pool.old) made.now }
+    ensures grown { Grown base_grows base_reads pool.old pool.new }
+    ensures made { IfOk result (MadeAt (PoolHas base_reads) (PoolMeans base_reads F.ring) pool.old
+        pool.new made.now (λ at. under_conditions at factors.now (claimed_term F.ONE at claimed))) }
+    ensures refused { IfErr result (RefusedAt (PoolMeans base_reads F.ring) PoolRefuses pool.old
+        made.now (λ at. under_conditions at factors.now (claimed_term F.ONE at claimed))) }
 {
-    let x = make_claimed(ring, made, claimed)?;
-    make_under(ring, made, factors, x)
+    let x = make_claimed(pool, made, claimed)?;
+    make_under(pool, made, factors, x)
 }
 
 /// The expressions that claims say to be zero, in order.
@@ -105,7 +67,7 @@ pub(crate) fn make_roots<F: Field>(
     alloc: Global,
     pool: &mut ExprPool<BaseLeaf<F>>,
     made: &[ExprId<BaseLeaf<F>>],
-    conditions: &[Vec<usize>],
+    conditions: &[Vec<Factor>],
     claims: &[Claim],
 ) -> Result<Vec<ExprId<BaseLeaf<F>>>, AirError>
     requires pool { IsPool base_reads pool.old }

@@ -11,4 +11,5 @@ pub mod Ordered
 pub mod Progress
 pub mod PoolNodes
 pub mod Elements
+pub mod Cleared
 mod Alone

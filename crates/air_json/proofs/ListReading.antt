@@ -14,7 +14,7 @@ use Rattle.air_json.specs.declared.errors.FlatError.TheVariants as faults
 use Rattle.air_json.specs.Results.{◌>>=◌, as_some, all_some, Fails, Gives}
 use Rattle.air_json.specs.Nodes.{Kind, KindLaws, node_of_value, node_more, nodes_from, last_tree, root_of}
 use Rattle.air_json.specs.NodeLists.{AreNodes, IsList, HasFault}
-use Rattle.air_json.specs.ListReaders.{last_number, HasRead}
+use Rattle.air_json.specs.ListReaders.{last_number, HasRead, IsNumbered, ReadsInto}
 use Rattle.air_json.specs.laws.Lists.{nodes_found, nodes_again, fault_found, fault_read, root_found, root_fault, fails_is, fails_if, gives_ok, gives_err}
 use Rattle.air_json.specs.laws.Readings.{ok_of, done_is, bind_ok, before_done}
 use Rattle.air_json.proofs.Growing.{AllBelow}
@@ -134,3 +134,14 @@ module _ {U A S F : Type 0} (kind : Kind S F) (laws : KindLaws kind) (tree : Poo
         let so_far : nodes_from kind [] (items_of ds) ≡ Ok (filter_map (tree p) ids) = given_all p ds n.0 n.2 ∙ ap (λ ts. ok_of ts) (sym (there_are (tree p) ids n.0 n.1)) in
         let same = nodes_push kind [] ds d ∙ ap (λ so_far. node_more kind so_far d) so_far in
         gives_read q (ds ++ d ∷ []) r here (subst (λ given. Gives (map (tree q)) r (all_some given)) (sym same) g)
+
+-- a list that was read has been read into the pool
+module _ {U A S F : Type 0} (kind : Kind S F) (tree : Pool U A → ℕ → Option (Tree S)) (p q : Pool U A) (ds : List Data) where
+  if_ok : {X P : Type 0} (r : Result X FlatError) → P → IfOk r (λ _. P)
+  if_ok (Ok x) h = h
+  if_ok (Err f) h = tt
+
+  pub read_into : (reader : Result (List ℕ) FlatError) (r : Result ℕ FlatError) → r ≡ last_number reader → HasRead kind tree q ds reader → IsNumbered (length p.nodes) reader (length q.nodes)
+      → IfOk r (λ _. ReadsInto kind tree p q (items_of ds))
+  read_into (Ok ids) r e h k = let n = h.nodes in if_ok r record { ids = ids; trees = n.0; nodes = n.2; are = n.1; numbered = k }
+  read_into (Err f) r e h k = subst (λ (r : Result ℕ FlatError). IfOk r (λ _. ReadsInto kind tree p q (items_of ds))) (sym e) tt

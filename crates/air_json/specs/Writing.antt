@@ -1,5 +1,5 @@
 -- Writing a list: the places of written nodes, and the remaining steps.
-use Rattle.std.specs.Prelude.{◌≡◌, ℕ, ◌<◌, ◌^◌, Bool, true, false, List, ◌∷◌, map, reverse, Option, Some, codes}
+use Rattle.std.specs.Prelude.{◌≡◌, ℕ, ◌<◌, ◌^◌, Bool, true, false, List, [], ◌∷◌, map, reverse, Option, Some, None, codes, set}
 use Rattle.std.specs.List.{slice_get}
 use Rattle.serde_json.specs.Data.{Data}
 use Rattle.air_symbolic.specs.Nodes.{operands, IsValidNode}
@@ -15,6 +15,11 @@ use Rattle.air_json.specs.Written.{two_data, one_data}
 -- number x has a place
 abbrev pub Placed : List (Option ℕ) → ℕ → Type 0
 Placed places x = (i : ℕ) × (slice_get places x ≡ Some (Some i))
+
+-- the table without the places of these numbers, which are taken out from the last on
+unfoldable pub without_places : List ℕ → List (Option ℕ) → List (Option ℕ)
+without_places [] places = places
+without_places (n ∷ ns) places = set (without_places ns places) n None
 
 -- each operand of the node has a place; a leaf is valid
 abbrev pub IsWritable : {A : Type 0} → (A → Type 0) → List (Option ℕ) → SymbolicExpr A → Type 0

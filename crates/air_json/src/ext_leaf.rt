@@ -160,8 +160,8 @@ fn ext_leaf_from<F: PrimeField64, EF: ExtensionField<F>>(
     }
 }
 
-// The list of the elements' canonical numbers.
-fn elements_value<F: PrimeField64>(alloc: Global, elements: &[F]) -> Result<Value, AllocError>
+/// The list of the elements' canonical numbers.
+pub fn elements_value<F: PrimeField64>(alloc: Global, elements: &[F]) -> Result<Value, AllocError>
     ensures { IfOk result (λ v. view v ≡ array (number_items F.residues elements.now)) }
 {
     let mut items = Vec::new(alloc);

@@ -24,9 +24,10 @@ mod written_nodes;
 
 pub use base_leaf::element_from;
 pub use errors::FlatError;
+pub use ext_leaf::elements_value;
 pub use lists::{ListReader, from_flat_value};
 pub use parts::{whole_at, whole_number};
 pub use plain::Plain;
 pub use spelled::Spelled;
 pub use wire_leaf::WireLeaf;
-pub use written_lists::to_flat_value;
+pub use written_lists::{to_flat_value, to_flat_values};

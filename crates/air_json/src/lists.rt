@@ -1,9 +1,11 @@
 //! Lists of nodes.
-ghost use Rattle.std.specs.Prelude.{◌≡◌, ◌≢◌, ◌<◌, ◌∷◌, ◌++◌, [], List, map, filter_map, All, Ok, IfOk, IfErr};
-ghost use Rattle.serde_json.specs.Data.{Data, array};
+ghost use Rattle.std.specs.Prelude.{◌≡◌, ◌≢◌, ℕ, ◌<◌, ◌∷◌, ◌++◌, [], List, map, filter_map, All, Ok, Some, IfOk, IfErr, OnOk};
+ghost use Rattle.serde_json.specs.Data.{Data, Items, array};
+ghost use Rattle.serde_json.specs.Find.{as_array};
 ghost use Rattle.serde_json.specs.View.{view, items_of};
+ghost use Rattle.air_symbolic.specs.Numbered.{Numbered};
 ghost use Rattle.air_symbolic.specs.Pools.{Pool, IsPool, FitsBase, Grown, size};
-ghost use Rattle.air_json.specs.ListReaders.{numbers_or, last_number, HasRead};
+ghost use Rattle.air_json.specs.ListReaders.{numbers_or, last_number, HasRead, IsNumbered, ReadsInto};
 ghost use Rattle.air_json.specs.ReadCalls.{AreOf, ReadsTree, ReadsAll};
 ghost use Rattle.air_json.specs.Results.{all_some};
 ghost use Rattle.air_json.specs.Unshared.{seen_at};
@@ -44,9 +46,11 @@ fn push_node<A: WireLeaf>(
     value: &Value,
 ) -> Result<(), FlatError>
     requires { AreOf A.reads pool.old ids.old.items }
-    ensures { ReadsAll A.grows A.reads (seen_at A.seen) (λ _. ids.new.items) pool.old pool.new
+    ensures read { ReadsAll A.grows A.reads (seen_at A.seen) (λ _. ids.new.items) pool.old pool.new
         result (all_some (node_more A.kind (Ok (filter_map (seen_at A.seen pool.old) ids.old.items))
         (view value.now))) }
+    ensures numbered { OnOk result ((n : ℕ) → Numbered n ids.old.items (size pool.old)
+        → Numbered n ids.new.items (size pool.new)) }
 {
     let id = node_from(alloc, pool, ids, value)?;
     ids.push(id)?;
@@ -69,6 +73,8 @@ fn fault_after<A: WireLeaf>(
         → HasRead A.kind (seen_at A.seen) pool.old ds (numbers_or ids.old.items fault)
         → HasRead A.kind (seen_at A.seen) pool.new (ds ++ view value.now ∷ [])
         (numbers_or ids.new.items result) }
+    ensures numbered { (n : ℕ) → IsNumbered n (numbers_or ids.old.items fault) (size pool.old)
+        → IsNumbered n (numbers_or ids.new.items result) (size pool.new) }
 {
     match fault {
         Some(fault) => Some(fault),
@@ -93,9 +99,10 @@ fn last_or<A: WireLeaf>(ids: &[ExprId<A>], fault: Option<FlatError>) -> Result<E
 }
 
 impl<A: WireLeaf> ListReader<A> {
-    /// A reader at the start of a list.
+    /// A reader at the start of a list, without a fault. Allocates nothing.
     pub fn new(alloc: Global) -> Self
-        ensures { (p : Pool A.Base A)
+        ensures empty { result ≡ Ok [] }
+        ensures read { (p : Pool A.Base A)
             → HasRead A.kind (seen_at A.seen) p [] result }
     {
         ListReader {
@@ -109,15 +116,20 @@ impl<A: WireLeaf> ListReader<A> {
         requires owed { FitsBase A.reads pool.old }
         requires here { IfOk self.old (λ ids. All (λ i. i < size pool.old) ids) }
         ensures grown { Grown A.grows A.reads pool.old pool.new }
+        ensures pool { IsPool A.reads pool.new }
         ensures read { (ds : List Data) → HasRead A.kind (seen_at A.seen) pool.old ds self.old
             → HasRead A.kind (seen_at A.seen) pool.new (ds ++ view value.now ∷ []) self.new }
+        ensures numbered { (n : ℕ) → IsNumbered n self.old (size pool.old)
+            → IsNumbered n self.new (size pool.new) }
     {
         pool.nodes_fit();
         self.fault = fault_after(alloc, pool, &mut self.ids, self.fault, value);
     }
 
-    /// The expression of the list's root, which is its last node, or the list's first fault.
+    /// The expression of the list's root, which is its last node, or the list's first fault. If there is none, the
+    /// pool has gained just the list's new nodes, in the list's order.
     pub fn root(self) -> Result<ExprId<A>, FlatError>
+        ensures last { result ≡ last_number self }
         ensures here { (p : Pool A.Base A) → (ds : List Data)
             → HasRead A.kind (seen_at A.seen) p ds self → IfOk result (λ i. i < size p) }
         ensures root { (p : Pool A.Base A) → (ds : List Data)
@@ -126,6 +138,9 @@ impl<A: WireLeaf> ListReader<A> {
         ensures fault { (p : Pool A.Base A) → (ds : List Data)
             → HasRead A.kind (seen_at A.seen) p ds self → IfErr result
             (λ e. e ≢ FlatError.Memory → HasFault A.kind (array (items_of ds)) e) }
+        ensures gained { (p q : Pool A.Base A) → (ds : List Data)
+            → HasRead A.kind (seen_at A.seen) q ds self → IsNumbered (size p) self (size q)
+            → IfOk result (λ _. ReadsInto A.kind (seen_at A.seen) p q (items_of ds)) }
     {
         last_or(&self.ids, self.fault)
     }
@@ -136,6 +151,7 @@ fn items_from<A: WireLeaf>(alloc: Global, pool: &mut ExprPool<A>, items: &[Value
     requires { IsPool A.reads pool.old }
     ensures grown { Grown A.grows A.reads pool.old pool.new }
     ensures read { HasRead A.kind (seen_at A.seen) pool.new (map view items.now) result }
+    ensures numbered { IsNumbered (size pool.old) result (size pool.new) }
 {
     let mut list = ListReader::new(alloc);
     for item in items {
@@ -151,16 +167,19 @@ pub(crate) fn list_from<A: WireLeaf>(
     value: &Value,
 ) -> Result<ExprId<A>, FlatError>
     requires { IsPool A.reads pool.old }
-    ensures { ReadsTree A.grows A.reads (seen_at A.seen) pool.old pool.new result
+    ensures read { ReadsTree A.grows A.reads (seen_at A.seen) pool.old pool.new result
         (root_of A.kind (view value.now)) }
+    ensures gained { IfOk result (λ _. (ds : Items) × (as_array (view value.now) ≡ Some ds)
+        × ReadsInto A.kind (seen_at A.seen) pool.old pool.new ds) }
 {
     let items = value.as_array().ok_or(FlatError::Shape { at: 0 })?;
     let list = items_from(alloc, pool, items);
     list.root()
 }
 
-/// Reads a list of nodes, without simplifying them, and answers the expression of its root, the last node. Fails with
-/// the first fault of any other value; nodes before the fault may stay in the pool.
+/// Reads a list of nodes, without simplifying them, and answers the expression of its root, the last node. The pool
+/// gains just the list's new nodes, in the list's order. Fails with the first fault of any other value; nodes before the
+/// fault may stay in the pool.
 pub fn from_flat_value<A: WireLeaf>(
     alloc: Global,
     pool: &mut ExprPool<A>,
@@ -168,9 +187,12 @@ pub fn from_flat_value<A: WireLeaf>(
 ) -> Result<ExprId<A>, FlatError>
     requires { FitsBase A.reads pool.old }
     ensures grown { Grown A.grows A.reads pool.old pool.new }
+    ensures pool { IsPool A.reads pool.new }
     ensures here { IfOk result (λ i. i < size pool.new) }
     ensures root { IfOk result (λ i. IsList A.kind (view value.now) (seen_at A.seen pool.new i)) }
     ensures fault { IfErr result (λ e. e ≢ FlatError.Memory → HasFault A.kind (view value.now) e) }
+    ensures gained { IfOk result (λ _. (ds : Items) × (as_array (view value.now) ≡ Some ds)
+        × ReadsInto A.kind (seen_at A.seen) pool.old pool.new ds) }
 {
     pool.nodes_fit();
     list_from(alloc, pool, value)

@@ -3,7 +3,7 @@ ghost use Rattle.std.specs.Prelude.{◌≡◌, ◌<◌, All, filter_map, IfOk, I
 ghost use Rattle.serde_json.specs.View.{view};
 ghost use Rattle.air_symbolic.specs.Pools.{IsPool, size};
 ghost use Rattle.air_symbolic.specs.Trees.{both};
-ghost use Rattle.air_json.specs.ReadCalls.{AreOf, ReadsTree};
+ghost use Rattle.air_json.specs.ReadCalls.{AreOf, ReadsNode};
 ghost use Rattle.air_json.specs.Results.{as_some};
 ghost use Rattle.air_json.specs.Unshared.{seen_at, degree_of};
 ghost use Rattle.air_json.specs.Nodes.{operand, check_degree, joined_degree, joined_tree, operands_at, operation_at, leaf_node_at, node_of_value};
@@ -98,7 +98,7 @@ fn insert_operation<A: WireLeaf>(
     requires fits { IsOk (joined_degree operation
         (degree_of A.kind.term (seen_at A.seen pool.old operands.0))
         (degree_of A.kind.term (seen_at A.seen pool.old operands.1))) }
-    ensures { ReadsTree A.grows A.reads (seen_at A.seen) pool.old pool.new result
+    ensures { ReadsNode A.grows A.reads (seen_at A.seen) pool.old pool.new result
         (Ok (both (joined_tree operation) (seen_at A.seen pool.old operands.0)
         (seen_at A.seen pool.old operands.1))) }
 {
@@ -121,7 +121,7 @@ fn operation_from<A: WireLeaf>(
     contents: &Value,
 ) -> Result<ExprId<A>, FlatError>
     requires { AreOf A.reads pool.old ids.now }
-    ensures { ReadsTree A.grows A.reads (seen_at A.seen) pool.old pool.new result
+    ensures { ReadsNode A.grows A.reads (seen_at A.seen) pool.old pool.new result
         (as_some (operation_at A.kind (filter_map (seen_at A.seen pool.old) ids.now) operation
         (view contents.now))) }
 {
@@ -136,7 +136,7 @@ fn leaf_from<A: WireLeaf>(
     contents: &Value,
 ) -> Result<ExprId<A>, FlatError>
     requires { IsPool A.reads pool.old }
-    ensures { ReadsTree A.grows A.reads (seen_at A.seen) pool.old pool.new result
+    ensures { ReadsNode A.grows A.reads (seen_at A.seen) pool.old pool.new result
         (as_some (leaf_node_at A.kind at (view contents.now))) }
 {
     let leaf = A::leaf_from_value(alloc, at, pool.base_mut(), contents)?;
@@ -152,7 +152,7 @@ pub(crate) fn node_from<A: WireLeaf>(
     value: &Value,
 ) -> Result<ExprId<A>, FlatError>
     requires { AreOf A.reads pool.old ids.now }
-    ensures { ReadsTree A.grows A.reads (seen_at A.seen) pool.old pool.new result
+    ensures { ReadsNode A.grows A.reads (seen_at A.seen) pool.old pool.new result
         (as_some (node_of_value A.kind (filter_map (seen_at A.seen pool.old) ids.now)
         (view value.now))) }
 {

@@ -9,7 +9,7 @@ use Rattle.air_json.specs.declared.errors.FlatError.TheVariants as faults
 use Rattle.air_json.specs.Results.{◌>>=◌, Fails}
 use Rattle.air_object.specs.Readers.{Reader, each_from}
 
-items_at : (vs : List Value) (i : ℕ) (v : Value) → i < length vs → v ≡ get_or vs i v → items_view (drop i vs) ≡ item (view v) (items_view (drop (i + 1) vs))
+pub items_at : (vs : List Value) (i : ℕ) (v : Value) → i < length vs → v ≡ get_or vs i v → items_view (drop i vs) ≡ item (view v) (items_view (drop (i + 1) vs))
 items_at vs i v lt is = ap items_view (drop-cons vs i v lt) ∙ rw (← is, add-one) refl
 
 module _ {X : Type 0} (read : Reader X) (vs : List Value) (done : List X) (i : ℕ) where

@@ -2,10 +2,11 @@
 use Rattle.std.proofs.Common.{◌≡◌, ◌≢◌, ℕ, ◌-◌, ◌<◌, ◌≤◌, List, [], ◌∷◌, ◌++◌, length, map, Option, Some, None, Result, Ok, Err, Bool, true, false, IfOk, codes, bytes_eq, true≢false, String, BTreeMap, Vec, Global, refl, sym, ap, subst, ◌∙◌, arith}
 use Rattle.std.proofs.lemmas.List.{map_push}
 use Rattle.std.proofs.lemmas.Slice.Eq.{bytes_eq-Decides}
+use Rattle.std.proofs.lemmas.Result.{IfOk-weaker}
 use Rattle.std.specs.Result.{result_map_both}
 use Rattle.json.specs.Json.{Json, Parse, parse_map, after_end_array, items}
 use Rattle.json.specs.Token.{Token}
-use Rattle.serde_json.specs.Data.{Data, array, object, Items, Members, no_members, put}
+use Rattle.serde_json.specs.Data.{Data, array, object, Items, item, no_items, Members, no_members, put}
 use Rattle.serde_json.specs.Find.{get, get_member}
 use Rattle.serde_json.specs.Read.{of_json, of_items, converted}
 use Rattle.serde_json.specs.View.{view, items_of, members_view}
@@ -14,6 +15,7 @@ use Rattle.serde_json.proofs.Views.{view-Object, get_member-put, get_member-put_
 use Rattle.air_field.specs.Modular.{Modular}
 use Rattle.air_symbolic.specs.ExtLeaves.{BaseNodes}
 use Rattle.air_symbolic.specs.BaseLeaves.{base_reads, base_grows}
+use Rattle.air_symbolic.specs.Numbered.{trees_in}
 use Rattle.air_symbolic.specs.Pools.{tree_at}
 use Rattle.air_symbolic.specs.Trees.{Tree}
 use Rattle.air_symbolic.specs.declared.leaves.base_leaf.BaseLeaf.{BaseLeaf}
@@ -23,12 +25,16 @@ use Rattle.air_json.specs.laws.Lists.{fails_is, fails_if}
 use Rattle.air_json.specs.Results.{◌>>=◌, Fails, Gives}
 use Rattle.air_json.specs.declared.errors.FlatError.{FlatError}
 use Rattle.air_json.specs.declared.errors.FlatError.TheVariants as faults
+use Rattle.air_object.specs.Gained.{GainsLists, GainsArray, GainsFound, GainsMember, AreRootsOf}
 use Rattle.air_object.specs.Members.{Made, LabelledTrees}
-use Rattle.air_object.specs.Parts.{GivenElements, AreElements, GivenTrees, AreGiven, and_one, read_one_more, root_numbers, of_member, AreMembersOf, ArePartsOf, given_elements, given_by}
+use Rattle.air_object.specs.Parts.{GivenElements, AreElements, GivenTrees, AreGiven, TakesPool, and_one, read_one_more, root_numbers, of_member, AreMembersOf, ArePartsOf, given_elements, given_by}
 use Rattle.air_object.specs.Readers.{Reader, each_from, elements, tree, trees, width_member, elements_member, table_member, constraints_member, periodic_member, boundary_member, cap_member, weight_member, labels_member, labelled_with, labelled_read, members_with, members_read}
 use Rattle.air_object.proofs.TokenLemmas.{data_before, one_more_data, item_read}
+use Rattle.air_object.specs.laws.Members.{constraints_agree}
+use Rattle.air_object.proofs.Gains.{gains_last}
 use Rattle.air_object.proofs.Trees.{GrownTo, AllIn, all_in_push, trees_kept}
 use Rattle.air_object.specs.declared.constraints.Constraints.{Constraints}
+use Rattle.air_object.specs.declared.labelled.Labelled.{Labelled}
 
 -- the view of an answer is the given answer
 pub gives_ok : {X Y : Type 0} (see : X → Y) (r : Result X FlatError) (x : X) (given : Result Y FlatError) → r ≡ Ok x → Gives see r given → given ≡ Ok (see x)
@@ -81,6 +87,15 @@ item_taken p all start n ts r ds d enough so_far less going taken shorter = (
   omega (arith, less, shorter),
 )
 
+-- a turn of the loop over an array's items, for what is known of those before
+pub one_item_on : (Before After : List Data → Type 0) (p : Parse Json) (all : Option (Items × List Token)) (start n : ℕ) (ts r : List Token) (ds : List Data) (d : Data) → length ts ≤ n
+    → all ≡ parse_map (data_before ds) (converted of_items (items p n ts)) → length ts ≤ start → Before ds → after_end_array ts ≡ None
+    → converted of_json (p ts) ≡ Some (d, r) → length r < length ts → (Before ds → After (ds ++ d ∷ []))
+    → (m : ℕ) × (length r ≤ m) × (es : List Data) × (all ≡ parse_map (data_before es) (converted of_items (items p m r))) × (length r ≤ start) × After es
+one_item_on Before After p all start n ts r ds d enough so_far less known going taken shorter more =
+    let turn = item_taken p all start n ts r ds d enough so_far less going taken shorter in
+    (turn.0, turn.1, ds ++ d ∷ [], turn.2, turn.3, more known)
+
 -- reading one more value
 pub more_read : {X : Type 0} (read : Reader X) (before : List X) (d : Data) (x : X) → read d ≡ Ok x → read_one_more read (Ok before) d ≡ Ok (before ++ x ∷ [])
 more_read {X} read before d x e = ap (λ (r : Result X FlatError). r >>= λ y. Ok (before ++ y ∷ [])) e
@@ -100,17 +115,23 @@ module _ {X : Type 0} (read : Reader X) where
       (turn.0, turn.1, ds ++ d ∷ [], turn.2, turn.3, subst After (sym (each_from_push read [] ds d)) (more (each_from read [] (items_of ds)) given))
 
 module _ {F : Type 0} {order : ℕ} (modular : Modular F order) where
-  -- a fact about reading an array's items is one about reading the array
-  pub of_array : {E R : Type 0} (P : R → Data → Type 0) (r : Result R E) (whole : Option (Data × List Token)) (inside : Option (Items × List Token)) (rest : List Token) → whole ≡ parse_map array inside
-      → IfOk r (λ c. (ds : Items) × (inside ≡ Some (ds, rest)) × P c (array ds)) → IfOk r (λ c. (d : Data) × (whole ≡ Some (d, rest)) × P c d)
-  of_array P (Ok c) whole inside rest e h = (array h.0, e ∙ ap (parse_map array) h.1, h.2)
-  of_array P (Err f) whole inside rest e h = tt
+  -- a list that is read from an array's items is read from the array
+  pub root_of_array : {E : Type 0} (p q : BaseNodes F) (r : Result (Result ℕ FlatError) E) (whole : Option (Data × List Token)) (inside : Option (Items × List Token)) (rest : List Token) → whole ≡ parse_map array inside
+      → IfOk r (λ root. (ds : Items) × (inside ≡ Some (ds, rest)) × ReadsTree base_grows base_reads tree_at p q root (tree modular (array ds)) × IfOk root (λ _. GainsLists modular (item (array ds) no_items) (trees_in p) (trees_in q)))
+      → IfOk r (λ root. (d : Data) × (whole ≡ Some (d, rest)) × ReadsTree base_grows base_reads tree_at p q root (tree modular d) × IfOk root (λ _. GainsLists modular (item d no_items) (trees_in p) (trees_in q)))
+  root_of_array p q (Ok root) whole inside rest e h = (array h.0, e ∙ ap (parse_map array) h.1, h.2, h.3)
+  root_of_array p q (Err f) whole inside rest e h = tt
 
   -- the lists of an array are the constraints of its value
   pub lists_of_array : {E : Type 0} (r : Result (Constraints F) E) (whole : Option (Data × List Token)) (inside : Option (Items × List Token)) (rest : List Token) → whole ≡ parse_map array inside
-      → IfOk r (λ c. (ds : Items) × (inside ≡ Some (ds, rest)) × AreGiven (each_from (tree modular) [] ds) c) → IfOk r (λ c. (d : Data) × (whole ≡ Some (d, rest)) × AreGiven (trees modular d) c)
+      → IfOk r (λ c. (ds : Items) × (inside ≡ Some (ds, rest)) × AreGiven (each_from (tree modular) [] ds) (GainsLists modular ds []) c)
+      → IfOk r (λ c. (d : Data) × (whole ≡ Some (d, rest)) × AreGiven (trees modular d) (GainsArray modular d []) c)
   unfolding trees
-  lists_of_array (Ok c) whole inside rest e h = (array h.0, e ∙ ap (parse_map array) h.1, h.2)
+  lists_of_array (Ok c) whole inside rest e h = (
+    array h.0,
+    e ∙ ap (parse_map array) h.1,
+    record { inside = h.2.inside; gained = IfOk-weaker c.roots _ _ (λ _ g. (h.0, refl, g)) h.2.gained; read = h.2.read },
+  )
   lists_of_array (Err f) whole inside rest e h = tt
 
   -- likewise its elements
@@ -139,37 +160,56 @@ module _ {F : Type 0} {order : ℕ} (modular : Modular F order) where
     roots_seen all (Ok v) one here g = (subst (λ r. IfOk r (AllIn q)) one here, subst (λ r. Gives (map (tree_at q)) r more) one g)
     roots_seen all (Err f) one here g = (tt, fails_if f more (λ n. fails_is f more (subst (λ r. Gives (map (tree_at q)) r more) (fails_is f all one n) g) n))
 
-  pub root_more : (c e : Constraints F) (root : Result ℕ FlatError) (d : Data) (given : GivenTrees F) → ReadsTree base_grows base_reads tree_at c.pool e.pool root (tree modular d)
-      → Gives (λ v. v.items) e.roots (and_one (root_numbers c.roots) root) → AreGiven given c → AreGiven (read_one_more (tree modular) given d) e
-  root_more c e root d given reads one h =
+  both_ok : {A B C : Type 0} (roots : Result (Vec ℕ Global) FlatError) (root : Result ℕ FlatError) (after : Result (Vec ℕ Global) FlatError) → Gives (λ v. v.items) after (and_one (root_numbers roots) root)
+      → (A → B → C) → IfOk roots (λ _. A) → IfOk root (λ _. B) → IfOk after (λ _. C)
+  both_ok roots root (Err f) one join a b = tt
+  both_ok (Ok v) (Ok i) (Ok w) one join a b = join a b
+  both_ok (Ok v) (Err f) (Ok w) one join a b = absurd cc
+  both_ok (Err f) root (Ok w) one join a b = absurd cc
+
+  pub root_more : (c e : Constraints F) (root : Result ℕ FlatError) (d : Data) (given : GivenTrees F) (ds : List Data) → ReadsTree base_grows base_reads tree_at c.pool e.pool root (tree modular d)
+      → IfOk root (λ _. GainsLists modular (item d no_items) (trees_in c.pool) (trees_in e.pool))
+      → Gives (λ v. v.items) e.roots (and_one (root_numbers c.roots) root) → AreGiven given (GainsLists modular (items_of ds) []) c
+      → AreGiven (read_one_more (tree modular) given d) (GainsLists modular (items_of (ds ++ d ∷ [])) []) e
+  root_more c e root d given ds reads gained one h =
       let both = roots_more c.pool e.pool d given reads.grown c.roots root h.inside.here reads.here h.read reads.read in
       let seen = roots_seen c.pool e.pool d given reads.grown (and_one (root_numbers c.roots) root) e.roots one both.0 both.1 in
-      record { inside = record { pool = reads.grown.pool h.inside.pool; here = seen.0 }; read = seen.1 }
+      record {
+        inside = record { pool = reads.grown.pool h.inside.pool; here = seen.0 };
+        gained = both_ok c.roots root e.roots one (gains_last modular ds d [] (trees_in c.pool) (trees_in e.pool)) h.gained gained;
+        read = seen.1;
+      }
 
   -- ---- one more member
 
-  pub none_of_members : (es : Result (Vec F Global) FlatError) (c : Constraints F) → AreElements (Err (faults.Shape 0)) es → AreGiven (Err (faults.Shape 0)) c → AreMembersOf modular no_members no_members es c
-  none_of_members es c g h = record { others = λ name n k. refl; main = g; constraints = h }
+  pub none_of_members : (es : Result (Vec F Global) FlatError) (c : Constraints F) → AreElements (Err (faults.Shape 0)) es → AreGiven (Err (faults.Shape 0)) (λ _. ⊥) c → AreMembersOf modular no_members no_members es c
+  none_of_members es c g h = record {
+    others = λ name n k. refl;
+    main = g;
+    constraints = record { inside = h.inside; gained = IfOk-weaker c.roots _ _ (λ _ never. absurd never) h.gained; read = h.read };
+  }
 
   pub puts_main : (ms rest : Members) (es fs : Result (Vec F Global) FlatError) (c : Constraints F) (d : Data) → AreMembersOf modular ms rest es c → AreElements (elements modular d) fs → AreMembersOf modular (put name_main d ms) rest fs c
   puts_main ms rest es fs c d h given = record {
     others = λ name n k. get_member-put_other name name_main d ms n ∙ h.others name n k;
     main = subst (λ o. AreElements (of_member (elements modular) o) fs) (sym (get_member-put name_main d ms)) given;
-    constraints = subst (λ o. AreGiven (of_member (trees modular) o) c) (sym (get_member-put_other name_apart name_main d ms (λ e. absurd cc))) h.constraints;
+    constraints = subst (λ o. AreGiven (of_member (trees modular) o) (GainsFound modular o) c) (sym (get_member-put_other name_apart name_main d ms (λ e. absurd cc))) h.constraints;
   }
 
-  pub puts_apart : (ms rest : Members) (es : Result (Vec F Global) FlatError) (c e : Constraints F) (d : Data) → AreMembersOf modular ms rest es c → AreGiven (trees modular d) e → AreMembersOf modular (put name_apart d ms) rest es e
+  pub puts_apart : (ms rest : Members) (es : Result (Vec F Global) FlatError) (c e : Constraints F) (d : Data) → AreMembersOf modular ms rest es c → AreGiven (trees modular d) (GainsArray modular d []) e → AreMembersOf modular (put name_apart d ms) rest es e
   puts_apart ms rest es c e d h given = record {
     others = λ name n k. get_member-put_other name name_apart d ms k ∙ h.others name n k;
     main = subst (λ o. AreElements (of_member (elements modular) o) es) (sym (get_member-put_other name_main name_apart d ms (λ e. absurd cc))) h.main;
-    constraints = subst (λ o. AreGiven (of_member (trees modular) o) e) (sym (get_member-put name_apart d ms)) given;
+    constraints =
+        subst (λ o. AreGiven (of_member (trees modular) o) (GainsFound modular o) e) (sym (get_member-put name_apart d ms))
+        record { inside = given.inside; gained = IfOk-weaker e.roots _ _ (λ _ g. (d, refl, g)) given.gained; read = given.read };
   }
 
   pub puts_other : (ms rest : Members) (es : Result (Vec F Global) FlatError) (c : Constraints F) (k : List ℕ) (d : Data) → k ≢ name_main → k ≢ name_apart → AreMembersOf modular ms rest es c → AreMembersOf modular (put k d ms) (put k d rest) es c
   puts_other ms rest es c k d first other h = record {
     others = λ name m n. by_name name m n (bytes_eq name k) refl;
     main = subst (λ o. AreElements (of_member (elements modular) o) es) (sym (get_member-put_other name_main k d ms (λ e. first (sym e)))) h.main;
-    constraints = subst (λ o. AreGiven (of_member (trees modular) o) c) (sym (get_member-put_other name_apart k d ms (λ e. other (sym e)))) h.constraints;
+    constraints = subst (λ o. AreGiven (of_member (trees modular) o) (GainsFound modular o) c) (sym (get_member-put_other name_apart k d ms (λ e. other (sym e)))) h.constraints;
   }
     where
       by_name : (name : List ℕ) → name ≢ name_main → name ≢ name_apart → (b : Bool) → bytes_eq name k ≡ b → get_member name (put k d ms) ≡ get_member name (put k d rest)
@@ -273,3 +313,15 @@ module _ {F : Type 0} {order : ℕ} (modular : Modular F order) where
     labelled_give see r h =
         subst (λ v. Gives see r v) (sym labelled_same)
         (read_gives see r (λ g. labelled_with g rest) (constraints_member modular d) (only_memory see r _) (λ roots. map (tree_at c.pool) roots.items) c.roots parts.constraints.read h)
+
+    -- the pool and the roots that are taken from the parts are those of the object
+    pub roots_given : (l : Labelled F) → TakesPool c l → AreRootsOf modular d l.pool l.roots.items
+    roots_given l taken =
+        let h = parts.constraints in
+        subst (λ p. AreRootsOf modular d p l.roots.items) (sym taken.0)
+        record {
+          is_pool = h.inside.pool;
+          gained = subst (λ (r : Result (Vec ℕ Global) FlatError). IfOk r (λ _. GainsMember modular d (trees_in c.pool))) taken.1 h.gained;
+          here = subst (λ (r : Result (Vec ℕ Global) FlatError). IfOk r (λ v. AllIn c.pool v.items)) taken.1 h.inside.here;
+          trees = (constraints_agree modular).found d (map (tree_at c.pool) l.roots.items) (gives_ok (λ roots. map (tree_at c.pool) roots.items) c.roots l.roots (constraints_member modular d) taken.1 h.read);
+        }

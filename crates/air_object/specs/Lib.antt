@@ -2,8 +2,10 @@ pub mod Fields
 pub mod Objects
 pub mod Members
 pub mod Readers
+pub mod Gained
 pub mod Input
 pub mod Seen
 pub mod Begun
 pub mod Parts
+pub mod Writing
 pub mod laws

@@ -1,11 +1,14 @@
 //! Constraints, each a list of base nodes, in one pool.
-ghost use Rattle.std.specs.Prelude.{[], Ok, Err};
+ghost use Rattle.std.specs.Prelude.{◌≡◌, [], Ok, Err, IfOk};
+ghost use Rattle.serde_json.specs.Data.{item, no_items};
 ghost use Rattle.serde_json.specs.View.{view, items_view};
 ghost use Rattle.air_symbolic.specs.BaseLeaves.{base_reads, base_grows};
+ghost use Rattle.air_symbolic.specs.Numbered.{trees_in};
 ghost use Rattle.air_symbolic.specs.Pools.{tree_at};
 ghost use Rattle.air_json.specs.ReadCalls.{ReadsTree, ReadsAll};
 ghost use Rattle.air_json.specs.Results.{Gives};
 ghost use Rattle.air_json.specs.declared.errors.FlatError.TheVariants.{Shape};
+ghost use Rattle.air_object.specs.Gained.{GainsLists, GainsArray, GainsMember};
 ghost use Rattle.air_object.specs.Parts.{AreGiven, and_one, root_numbers};
 ghost use Rattle.air_object.specs.Readers.{each_from, tree, trees, constraints_member};
 
@@ -38,8 +41,10 @@ pub(crate) fn root_from<F: PrimeField64>(
     pool: &mut BasePool<F>,
     value: &Value,
 ) -> Root<F>
-    ensures { ReadsTree base_grows base_reads tree_at pool.old pool.new result
+    ensures read { ReadsTree base_grows base_reads tree_at pool.old pool.new result
         (tree F.residues (view value.now)) }
+    ensures gained { IfOk result (λ _. GainsLists F.residues (item (view value.now) no_items)
+        (trees_in pool.old) (trees_in pool.new)) }
 {
     from_flat_value(alloc, pool, value)
 }
@@ -49,8 +54,10 @@ fn roots_of<F: PrimeField64>(
     pool: &mut BasePool<F>,
     items: &[Value],
 ) -> Result<Roots<F>, FlatError>
-    ensures { ReadsAll base_grows base_reads tree_at (λ v. v.items) pool.old pool.new result
+    ensures read { ReadsAll base_grows base_reads tree_at (λ v. v.items) pool.old pool.new result
         (each_from (tree F.residues) [] (items_view items.now)) }
+    ensures gained { IfOk result (λ _. GainsLists F.residues (items_view items.now)
+        (trees_in pool.old) (trees_in pool.new)) }
 {
     let mut roots = Vec::new(alloc);
     for item in items {
@@ -60,15 +67,17 @@ fn roots_of<F: PrimeField64>(
     Ok(roots)
 }
 
-/// The roots of the lists in the value.
+/// The roots of the lists in the value. The pool gains just the lists' new nodes, in the lists' order.
 #[tactic(auto, unfolding(crate::specs::Readers::trees))]
 pub fn roots_from<F: PrimeField64>(
     alloc: Global,
     pool: &mut BasePool<F>,
     value: &Value,
 ) -> Result<Roots<F>, FlatError>
-    ensures { ReadsAll base_grows base_reads tree_at (λ v. v.items) pool.old pool.new result
+    ensures read { ReadsAll base_grows base_reads tree_at (λ v. v.items) pool.old pool.new result
         (trees F.residues (view value.now)) }
+    ensures gained { IfOk result (λ _. GainsArray F.residues (view value.now)
+        (trees_in pool.old) (trees_in pool.new)) }
 {
     let items = value.as_array().ok_or(FlatError::Shape { at: 0 })?;
     roots_of(alloc, pool, items)
@@ -76,7 +85,8 @@ pub fn roots_from<F: PrimeField64>(
 
 /// No constraints.
 pub fn no_constraints<F: PrimeField64>(alloc: Global) -> Constraints<F>
-    ensures { AreGiven (Ok []) result }
+    ensures none { root_numbers result.roots ≡ Ok [] }
+    ensures given { AreGiven (Ok []) (GainsLists F.residues no_items []) result }
 {
     Constraints {
         pool: ExprPool::new(alloc),
@@ -86,7 +96,8 @@ pub fn no_constraints<F: PrimeField64>(alloc: Global) -> Constraints<F>
 
 /// The fault of an object without the member.
 pub fn missing_constraints<F: PrimeField64>(alloc: Global) -> Constraints<F>
-    ensures { AreGiven (Err (Shape 0)) result }
+    ensures fault { result.roots ≡ Err (Shape 0) }
+    ensures given { AreGiven (Err (Shape 0)) (λ _. ⊥) result }
 {
     Constraints {
         pool: ExprPool::new(alloc),
@@ -108,7 +119,8 @@ pub(crate) fn with_root<F: PrimeField64>(
 
 /// The constraints in the value.
 pub fn constraints_listed<F: PrimeField64>(alloc: Global, value: &Value) -> Constraints<F>
-    ensures { AreGiven (trees F.residues (view value.now)) result }
+    ensures { AreGiven (trees F.residues (view value.now)) (GainsArray F.residues (view value.now) [])
+        result }
 {
     let mut pool = ExprPool::new(alloc);
     let roots = roots_from(alloc, &mut pool, value);
@@ -118,7 +130,8 @@ pub fn constraints_listed<F: PrimeField64>(alloc: Global, value: &Value) -> Cons
 /// The constraints of an object.
 #[tactic(auto, unfolding(crate::specs::Readers::constraints_member))]
 pub fn constraints_of<F: PrimeField64>(alloc: Global, value: &Value) -> Constraints<F>
-    ensures { AreGiven (constraints_member F.residues (view value.now)) result }
+    ensures { AreGiven (constraints_member F.residues (view value.now))
+        (GainsMember F.residues (view value.now)) result }
 {
     match value.get("constraints") {
         Some(lists) => constraints_listed(alloc, lists),

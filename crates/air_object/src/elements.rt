@@ -4,7 +4,7 @@ ghost use Rattle.serde_json.specs.View.{view, items_view};
 ghost use Rattle.air_json.specs.BaseLeaves.{element_at};
 ghost use Rattle.air_json.specs.Results.{Gives};
 ghost use Rattle.air_json.specs.declared.errors.FlatError.TheVariants.{Shape};
-ghost use Rattle.air_object.specs.Parts.{GivenElements, AreElements, read_one_more};
+ghost use Rattle.air_object.specs.Parts.{GivenElements, AreElements, given_elements, read_one_more};
 ghost use Rattle.air_object.specs.Readers.{each_from, elements, columns};
 
 use air_field::PrimeField64;
@@ -38,14 +38,16 @@ pub fn elements_from<F: PrimeField64>(alloc: Global, value: &Value) -> Result<Ve
 
 /// No elements.
 pub(crate) fn no_elements<F: PrimeField64>(alloc: Global) -> Elements<F>
-    ensures { AreElements (Ok []) result }
+    ensures none { given_elements result ≡ Ok [] }
+    ensures given { AreElements (Ok []) result }
 {
     Ok(Vec::new(alloc))
 }
 
 /// The fault of an object without the member.
 pub(crate) fn missing_elements<F: PrimeField64>() -> Elements<F>
-    ensures { AreElements (Err (Shape 0)) result }
+    ensures fault { result ≡ Err (Shape 0) }
+    ensures given { AreElements (Err (Shape 0)) result }
 {
     Err(FlatError::Shape { at: 0 })
 }

@@ -4,7 +4,7 @@ ghost use Rattle.serde_json.specs.View.{view};
 ghost use Rattle.air_symbolic.specs.BaseLeaves.{base_reads};
 ghost use Rattle.air_symbolic.specs.Pools.{IsPool, size};
 ghost use Rattle.air_json.specs.Results.{Gives};
-ghost use Rattle.air_object.specs.Parts.{InPool, given_by};
+ghost use Rattle.air_object.specs.Parts.{InPool, TakesPool, given_by};
 ghost use Rattle.air_object.specs.Readers.{labelled_with};
 ghost use Rattle.air_object.specs.Seen.{seen_labelled};
 
@@ -32,6 +32,7 @@ pub fn labelled_from<F: PrimeField64>(
     requires { InPool constraints }
     ensures pool { IfOk result (λ l. IsPool base_reads l.pool) }
     ensures roots { IfOk result (λ l. All (λ i. i < size l.pool) l.roots.items) }
+    ensures taken { IfOk result (TakesPool constraints) }
     ensures read { Gives seen_labelled result
         (labelled_with (given_by constraints) (view value.now)) }
 {

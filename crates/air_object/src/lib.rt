@@ -1,4 +1,4 @@
-//! An AIR and its trace as a JSON object: reading its members and its field, and the first fault if it is malformed.
+//! An AIR and its trace as a JSON object: reading its members and its field, the first fault if it is malformed, and writing it.
 #![tactic(auto)]
 
 mod cells;
@@ -13,6 +13,7 @@ mod members;
 mod number;
 mod parts;
 mod text;
+mod writing;
 
 pub use constraints::{BaseId, BasePool, Constraints, Roots};
 pub use elements::Elements;
@@ -21,3 +22,4 @@ pub use input::{FlatInput, Trial, flat_input_from, input_from};
 pub use labelled::{Labelled, labelled_from};
 pub use parts::{Parts, parts_of};
 pub use text::TextFault;
+pub use writing::{ObjectParts, object_value};

@@ -6,7 +6,7 @@ ghost use Rattle.air_symbolic.specs.Pools.{size};
 ghost use Rattle.air_json.specs.Results.{Gives};
 ghost use Rattle.air_json.specs.declared.errors.FlatError.TheVariants.{Shape};
 ghost use Rattle.air_object.specs.Members.{table_of, both_matrices};
-ghost use Rattle.air_object.specs.Parts.{InPool, given_elements, given_by};
+ghost use Rattle.air_object.specs.Parts.{InPool, TakesPool, given_elements, given_by};
 ghost use Rattle.air_object.specs.Readers.{width_member, elements_member, table_member, periodic_member, boundary_member, cap_in, cap_member, weight_member, members_with};
 ghost use Rattle.air_object.specs.Seen.{seen_made};
 
@@ -146,6 +146,8 @@ pub(crate) fn members_from<F: PrimeField64>(
     requires { InPool constraints }
     ensures roots { IfOk result (λ made. IfOk made (λ input.
         All (λ i. i < size input.constraints.pool) input.constraints.roots.items)) }
+    ensures taken { IfOk result (λ made. IfOk made
+        (λ input. TakesPool constraints input.constraints)) }
     ensures read { Gives seen_made result (members_with F.residues (given_elements main)
         (given_by constraints) (view value.now)) }
 {

@@ -1,14 +1,16 @@
 //! Reading the JSON object from its text: the trace number by number and the constraints node by node, so that at most
 //! one number or node is a JSON value at a time.
-ghost use Rattle.std.specs.Prelude.{◌≡◌, ◌≢◌, ◌<◌, [], length, Err, Some, None, IfOk, IfErr, OnOk};
-ghost use Rattle.serde_json.specs.Data.{Data, array, Items, Members};
+ghost use Rattle.std.specs.Prelude.{◌≡◌, ◌≢◌, ◌<◌, List, [], ◌∷◌, ◌++◌, length, Err, Some, None, IfOk, IfErr, OnOk};
+ghost use Rattle.serde_json.specs.Data.{Data, array, Items, item, no_items, Members};
 ghost use Rattle.serde_json.specs.Read.{read};
-ghost use Rattle.serde_json.specs.View.{view, members_view};
+ghost use Rattle.serde_json.specs.View.{view, items_of, members_view};
 ghost use Rattle.air_symbolic.specs.BaseLeaves.{base_reads, base_grows};
+ghost use Rattle.air_symbolic.specs.Numbered.{trees_in};
 ghost use Rattle.air_symbolic.specs.Pools.{tree_at};
 ghost use Rattle.air_json.specs.BaseLeaves.{element_at};
 ghost use Rattle.air_json.specs.ReadCalls.{ReadsTree};
 ghost use Rattle.air_object.specs.Begun.{value_at, items_at, members_at};
+ghost use Rattle.air_object.specs.Gained.{GainsLists, GainsArray};
 ghost use Rattle.air_object.specs.Parts.{GivenElements, AreElements, GivenTrees, InPool, AreGiven, AreMembersOf, ArePartsOf, read_one_more};
 ghost use Rattle.air_object.specs.Readers.{each_from, elements, tree, trees};
 
@@ -99,10 +101,13 @@ fn read_nodes<F: PrimeField64>(
 ) -> Result<Root<F>, TextFault>
     ensures ok { IfOk result (λ root. (ds : Items)
         × (items_at depth reader.old ≡ Some (ds, reader.new))
-        × ReadsTree base_grows base_reads tree_at pool.old pool.new root (tree F.residues (array ds))) }
+        × ReadsTree base_grows base_reads tree_at pool.old pool.new root (tree F.residues (array ds))
+        × IfOk root (λ _. GainsLists F.residues (item (array ds) no_items)
+        (trees_in pool.old) (trees_in pool.new))) }
     ensures shorter { OnOk result (length reader.new < length reader.old) }
     ensures err { result ≡ Err TextFault.Json → items_at depth reader.old ≡ None }
 {
+    pool.nodes_fit();
     let mut list = ListReader::new(alloc);
     'items: while !reader.take_end_array() {
         let item = read(alloc, reader, depth)?;
@@ -120,7 +125,9 @@ fn read_root<F: PrimeField64>(
 ) -> Result<Root<F>, TextFault>
     ensures ok { IfOk result (λ root. (d : Data)
         × (value_at depth reader.old ≡ Some (d, reader.new))
-        × ReadsTree base_grows base_reads tree_at pool.old pool.new root (tree F.residues d)) }
+        × ReadsTree base_grows base_reads tree_at pool.old pool.new root (tree F.residues d)
+        × IfOk root (λ _. GainsLists F.residues (item d no_items)
+        (trees_in pool.old) (trees_in pool.new))) }
     ensures shorter { OnOk result (length reader.new < length reader.old) }
     ensures err { result ≡ Err TextFault.Json → value_at depth reader.old ≡ None }
 {
@@ -140,8 +147,10 @@ fn read_list<F: PrimeField64>(
     requires { InPool constraints }
     ensures ok { IfOk result (λ c. (d : Data)
         × (value_at depth reader.old ≡ Some (d, reader.new))
-        × ((given : GivenTrees F) → AreGiven given constraints
-        → AreGiven (read_one_more (tree F.residues) given d) c)) }
+        × ((given : GivenTrees F) → (ds : List Data)
+        → AreGiven given (GainsLists F.residues (items_of ds) []) constraints
+        → AreGiven (read_one_more (tree F.residues) given d)
+        (GainsLists F.residues (items_of (ds ++ d ∷ [])) []) c)) }
     ensures shorter { OnOk result (length reader.new < length reader.old) }
     ensures err { result ≡ Err TextFault.Json → value_at depth reader.old ≡ None }
 {
@@ -159,7 +168,7 @@ fn read_lists<F: PrimeField64>(
 ) -> Result<Constraints<F>, TextFault>
     ensures ok { IfOk result (λ c. (ds : Items)
         × (items_at depth reader.old ≡ Some (ds, reader.new))
-        × AreGiven (each_from (tree F.residues) [] ds) c) }
+        × AreGiven (each_from (tree F.residues) [] ds) (GainsLists F.residues ds []) c) }
     ensures shorter { OnOk result (length reader.new < length reader.old) }
     ensures err { result ≡ Err TextFault.Json → items_at depth reader.old ≡ None }
 {
@@ -178,7 +187,7 @@ fn read_constraints<F: PrimeField64>(
 ) -> Result<Constraints<F>, TextFault>
     ensures ok { IfOk result (λ c. (d : Data)
         × (value_at depth reader.old ≡ Some (d, reader.new))
-        × AreGiven (trees F.residues d) c) }
+        × AreGiven (trees F.residues d) (GainsArray F.residues d []) c) }
     ensures shorter { OnOk result (length reader.new < length reader.old) }
     ensures err { result ≡ Err TextFault.Json → value_at depth reader.old ≡ None }
 {

@@ -8,3 +8,4 @@ pub mod LabelLemmas
 pub mod Numbers
 pub mod Definitions
 pub mod ExplainedPieces
+pub mod Walks

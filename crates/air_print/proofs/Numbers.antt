@@ -1,5 +1,5 @@
 -- Marks and values, one expression after another.
-use Rattle.std.proofs.Common.{◌≡◌, ◌⊎◌, ℕ, ◌+◌, ◌<◌, Bool, cond, List, [], ◌∷◌, ◌++◌, length, get_or, Option, None, Some, refl, sym, ap, ap₂, subst, ◌∙◌, arith, ⊎_elim, add-one}
+use Rattle.std.proofs.Common.{◌≡◌, ◌⊎◌, ℕ, ◌+◌, ◌<◌, List, [], ◌∷◌, ◌++◌, length, get_or, Option, None, Some, refl, sym, ap, ap₂, subst, ◌∙◌, arith, ⊎_elim}
 use Rattle.std.proofs.lemmas.List.{get_or_default, get_or_append_left, get_or_push}
 use Rattle.air_field.specs.Ring.{CommRing, minus, self_algebra}
 use Rattle.air_field.specs.Term.{Leaf}
@@ -11,7 +11,6 @@ use Rattle.air_symbolic.specs.Trees.{term_of}
 use Rattle.air_symbolic.specs.declared.leaves.base_leaf.BaseLeaf.{BaseLeaf}
 use Rattle.air_symbolic.specs.declared.pools.expr.SymbolicExpr.{SymbolicExpr}
 use Rattle.air_symbolic.specs.declared.pools.expr.SymbolicExpr.TheVariants as node
-use Rattle.air_print.specs.Names.{passing_below}
 use Rattle.air_print.specs.Values.{number_value, node_value, Known, AreClosed}
 
 -- a mark is its own index
@@ -40,7 +39,3 @@ node_value-is r s ns marks k values (node.Add x y d) h b m = ap₂ r.add (h x (b
 node_value-is r s ns marks k values (node.Sub x y d) h b m = ap₂ (minus r) (h x (b 0 x (omega arith)) (m 0 x (omega arith))) (h y (b 1 y (omega arith)) (m 1 y (omega arith)))
 node_value-is r s ns marks k values (node.Neg x d) h b m = ap r.neg (h x (b 0 x (omega arith)) (m 0 x (omega arith)))
 node_value-is r s ns marks k values (node.Mul x y d) h b m = ap₂ r.mul (h x (b 0 x (omega arith)) (m 0 x (omega arith))) (h y (b 1 y (omega arith)) (m 1 y (omega arith)))
-
--- one more expression is visited
-pub read-more : (test : ℕ → Bool) (n : ℕ) (old new : List ℕ) → old ≡ passing_below test n → new ≡ old ++ cond (test n) (n ∷ []) [] → new ≡ passing_below test (n + 1)
-read-more test n old new h e = e ∙ ap (λ xs. xs ++ cond (test n) (n ∷ []) []) h ∙ ap (passing_below test) (sym (add-one n))

@@ -1,5 +1,6 @@
 -- The columns, periodic columns and public values that an expression reads.
-use Rattle.std.specs.Prelude.{slice_get, ◌≡◌, ℕ, Bool, true, false, ◌&&◌, List, [], ◌∷◌, length, Option, None, Some}
+use Rattle.std.specs.List.{list_any}
+use Rattle.std.specs.Prelude.{slice_get, nat_eq, ◌≡◌, ℕ, Bool, true, false, ◌&&◌, List, [], ◌∷◌, length, Option, None, Some}
 use Rattle.air_symbolic.specs.BaseLeaves.{base_leaves}
 use Rattle.air_symbolic.specs.Reach.{Reached}
 use Rattle.air_symbolic.specs.declared.leaves.base_leaf.BaseLeaf.{BaseLeaf}
@@ -20,6 +21,10 @@ is_variable _ = false
 abbrev pub has_variable : {F : Type 0} → Option (SymbolicExpr (BaseLeaf F)) → Bool
 has_variable None = false
 has_variable (Some n) = is_variable n
+
+-- whether number i is in the list
+abbrev pub is_in : List ℕ → ℕ → Bool
+is_in numbers i = list_any (nat_eq i) numbers
 
 -- expression i is marked, and is such a leaf
 abbrev pub is_read : {F : Type 0} → List (SymbolicExpr (BaseLeaf F)) → List (Option ℕ) → ℕ → Bool

@@ -1,12 +1,12 @@
 //! Which columns and public values an expression reads.
-ghost use Rattle.std.specs.Prelude.{◌≡◌, ◌<◌, ◌++◌, ◌∷◌, [], length, IfOk, OnOk, if◌then◌else◌};
+ghost use Rattle.std.specs.Prelude.{◌≡◌, ◌<◌, ◌++◌, ◌∷◌, [], ◌||◌, ℕ, IfOk, OnOk, if◌then◌else◌};
 ghost use Rattle.air_symbolic.specs.Pools.{size};
-ghost use Rattle.air_print.specs.Values.{AreClosed};
-ghost use Rattle.air_print.specs.Reading.{is_variable, is_read, read_below, Reads};
+ghost use Rattle.air_print.specs.Reading.{is_in, is_variable, Reads};
 
 use air_field::Field;
-use air_symbolic::{BaseLeaf, ExprId, ExprPool, SymbolicExpr, SymbolicExpression, reached_nodes};
+use air_symbolic::{BaseLeaf, ExprId, ExprPool, SymbolicExpr, SymbolicExpression};
 use std::alloc::{AllocError, Global};
+use std::collections::BTreeSet;
 
 // Whether a node is a column, a periodic column or a public value.
 fn is_variable<F: Field>(node: SymbolicExpression<F>) -> bool
@@ -18,41 +18,33 @@ fn is_variable<F: Field>(node: SymbolicExpression<F>) -> bool
     }
 }
 
-// Pushes an expression, if it is marked and such a leaf.
+// Pushes an expression, if it is such a leaf.
 fn push_read<F: Field>(
     numbers: &mut Vec<ExprId<BaseLeaf<F>>>,
-    pool: &ExprPool<BaseLeaf<F>>,
-    marks: &[Option<ExprId<BaseLeaf<F>>>],
-    number: usize,
+    node: SymbolicExpression<F>,
+    id: ExprId<BaseLeaf<F>>,
 ) -> Result<(), AllocError>
-    requires marks { AreClosed pool.now.nodes marks.now }
-    requires here { number < length marks.now }
     ensures { OnOk result (numbers.new.items ≡ numbers.old.items
-        ++ (if is_read pool.now.nodes marks.now number then number ∷ [] else [])) }
+        ++ (if is_variable node then id ∷ [] else [])) }
 {
-    if let Some(id) = marks[number] {
-        if is_variable(*pool.node(id)) {
-            numbers.push(id)?;
-        }
+    if is_variable(node) {
+        numbers.push(id)?;
     }
     Ok(())
 }
 
-// The marked expressions that are such leaves, in order.
-fn marked_reads<F: Field>(
-    alloc: Global,
-    pool: &ExprPool<BaseLeaf<F>>,
-    marks: &[Option<ExprId<BaseLeaf<F>>>],
-) -> Result<Vec<ExprId<BaseLeaf<F>>>, AllocError>
-    requires marks { AreClosed pool.now.nodes marks.now }
-    ensures { IfOk result (λ numbers. numbers.items ≡
-        read_below pool.now.nodes marks.now (size pool.now)) }
+// Adds expressions to a set.
+fn insert_all<F: Field>(
+    set: &mut BTreeSet<ExprId<BaseLeaf<F>>>,
+    ids: &[ExprId<BaseLeaf<F>>],
+) -> Result<(), AllocError>
+    ensures { OnOk result ((i : ℕ) →
+        is_in set.new.keys i ≡ is_in set.old.keys i || is_in ids.now i) }
 {
-    let mut numbers = Vec::new(alloc);
-    for number in 0..marks.len() {
-        push_read(&mut numbers, pool, marks, number)?;
+    for id in ids {
+        set.insert(*id)?;
     }
-    Ok(numbers)
+    Ok(())
 }
 
 /// The columns, periodic columns and public values that occur in an expression's tree, each once and in the order of
@@ -65,8 +57,15 @@ pub fn reads<F: Field>(
     requires here { root < size pool.now }
     ensures { IfOk result (λ numbers. Reads pool.now.nodes root numbers.items) }
 {
-    let Ok(marks) = reached_nodes(alloc, pool, &[root]) else {
-        return Err(AllocError);
-    };
-    marked_reads(alloc, pool, &marks)
+    let mut numbers = Vec::new(alloc);
+    let mut waiting = BTreeSet::new(alloc);
+    waiting.insert(root)?;
+    // The operands of a node are below it, so each expression comes once, and the greatest first.
+    while let Some(id) = waiting.pop_last() {
+        let node = pool.node(id);
+        push_read(&mut numbers, *node, id)?;
+        insert_all(&mut waiting, node.operands().as_slice())?;
+    }
+    numbers.reverse();
+    Ok(numbers)
 }

@@ -14,3 +14,5 @@ pub mod ExplainedLemmas
 pub mod Outcomes
 pub mod NamedAnswers
 pub mod ShowAnswers
+pub mod Kept
+pub mod AnswerLaws

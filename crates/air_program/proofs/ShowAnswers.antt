@@ -1,10 +1,8 @@
 -- The answer of `show` to the members `constraints` and `labels`.
-use Rattle.std.proofs.Common.{◌≡◌, ◌≢◌, ◌⊎◌, ℕ, ◌<◌, List, length, map, All, Result, Ok, Err, string_bytes, refl, inl, inr}
+use Rattle.std.proofs.Common.{◌≡◌, ◌≢◌, ◌⊎◌, ℕ, List, map, Result, Ok, Err, string_bytes, refl, inl, inr}
 use Rattle.serde_json.specs.Data.{Data}
 use Rattle.serde_json.specs.View.{view}
 use Rattle.air_field.specs.Modular.{Modular}
-use Rattle.air_symbolic.specs.BaseLeaves.{base_reads}
-use Rattle.air_symbolic.specs.Pools.{IsPool}
 use Rattle.air_json.specs.Faults.{air_fault}
 use Rattle.air_json.specs.Results.{Gives}
 use Rattle.air_json.specs.laws.Lists.{fails_is}
@@ -12,13 +10,13 @@ use Rattle.air_json.specs.declared.errors.FlatError.{FlatError}
 use Rattle.air_json.specs.declared.errors.FlatError.TheVariants as faults
 use Rattle.air_print.specs.Lines.{ShowsRoots}
 use Rattle.air_object.specs.Members.{labelled_constraints}
-use Rattle.air_object.specs.Parts.{given_by}
-use Rattle.air_object.specs.Readers.{labelled_read, labelled_with}
+use Rattle.air_object.specs.Parts.{TakesPool, given_by}
+use Rattle.air_object.specs.Readers.{labelled_with, labelled_read}
 use Rattle.air_object.specs.Seen.{seen_labelled}
 use Rattle.air_object.specs.laws.Members.{labelled_agree}
 use Rattle.air_object.specs.declared.labelled.Labelled.{Labelled}
 use Rattle.air_object.specs.declared.parts.Parts.{Parts}
-use Rattle.air_object.proofs.PartLemmas.{gives_ok, gives_err, labelled_give}
+use Rattle.air_object.proofs.PartLemmas.{gives_ok, gives_err, labelled_give, roots_given}
 use Rattle.air_program.specs.ByField.{HasParts}
 use Rattle.air_program.specs.Refusals.{name_of, refusal_text, air_refusal}
 use Rattle.air_program.specs.Shown.{ShowsValue, ShownIn}
@@ -29,14 +27,13 @@ module _ {F : Type 0} {p : ℕ} (m : Modular F p) (parts : Parts F) (r : Result 
   read_of d has = labelled_give m d (view parts.rest) parts.main parts.constraints has seen_labelled r given
 
   -- the roots have the trees and the labels that the members spell, and the text shows them
-  pub shows_given : (l : Labelled F) → r ≡ Ok l → IsPool base_reads l.pool → All (λ i. i < length l.pool.nodes) l.roots.items → (text : List ℕ)
+  pub shows_given : (l : Labelled F) → r ≡ Ok l → TakesPool parts.constraints l → (text : List ℕ)
       → ShowsRoots m l.pool l.roots.items (map string_bytes l.labels.items) text
       → (d : Data) → HasParts m parts d → ShowsValue m d text
-  shows_given l is pool here text shows d has = record {
+  shows_given l is taken text shows d has = record {
     pool = l.pool;
     roots = l.roots.items;
-    is_pool = pool;
-    here = here;
+    are = roots_given m d (view parts.rest) parts.main parts.constraints has l taken;
     labels = map string_bytes l.labels.items;
     spelt = (labelled_agree m).found d (seen_labelled l) (gives_ok seen_labelled r l (labelled_read m d) is (read_of d has));
     shows = shows;

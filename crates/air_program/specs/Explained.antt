@@ -18,7 +18,7 @@ use Rattle.air_audit.specs.declared.audit.Audit.{Audit}
 use Rattle.air_object.specs.declared.input.FlatInput.{FlatInput}
 use Rattle.air_program.specs.FlatAnswer.{AnswersAudit}
 use Rattle.air_program.specs.Texts.{Found, found_in, place_of, IsFailureLine, count_lines, findings_status}
-use Rattle.air_print.specs.Lines.{lines_text}
+use Rattle.air_print.specs.Lines.{lines_text, listed_name}
 
 -- a failure: its row, its constraint and the label's bytes
 abbrev pub Failure : Type 0
@@ -78,6 +78,10 @@ pub record IsExplainedText {F : Type 0} {p : ℕ} (m : Modular F p) (pool : Base
   pub marks : List (Option ℕ)
   pub failing : Reached base_leaves pool.nodes (failing_roots roots f.failures) marks
   pub explains : PushesExplained m pool roots cells trace names.1 f.failures (lines_text (front_lines m pool names marks f)) text
+
+-- the same expressions have names, and each of them has the same name
+abbrev pub NamesAlike : List ℕ × List (Option ℕ) → List ℕ × List (Option ℕ) → Type 0
+NamesAlike a b = (a.0 ≡ b.0) × ((i : ℕ) → listed_name a.1 i ≡ listed_name b.1 i)
 
 -- the trace of an input
 abbrev pub input_trace : {F : Type 0} → FlatInput F → Trace F

@@ -1,22 +1,22 @@
 -- The answer to the word `show`.
-use Rattle.std.specs.Prelude.{◌≡◌, ◌⊎◌, ℕ, ◌<◌, List, map, All}
+use Rattle.std.specs.Prelude.{◌≡◌, ◌⊎◌, ℕ, List, map}
 use Rattle.serde_json.specs.Data.{Data}
 use Rattle.air_field.specs.Modular.{Modular}
-use Rattle.air_symbolic.specs.BaseLeaves.{base_reads}
 use Rattle.air_symbolic.specs.ExtLeaves.{BaseNodes}
-use Rattle.air_symbolic.specs.Pools.{IsPool, tree_at, size}
+use Rattle.air_symbolic.specs.Pools.{tree_at}
 use Rattle.air_json.specs.Faults.{air_fault}
 use Rattle.air_json.specs.declared.errors.FlatError.{FlatError}
 use Rattle.air_print.specs.Lines.{ShowsRoots}
+use Rattle.air_object.specs.Gained.{AreRootsOf}
 use Rattle.air_object.specs.Members.{labelled_constraints}
 use Rattle.air_program.specs.Refusals.{AnswersRefusal, air_name}
 
--- The text shows roots of a pool, which have the trees that the member `constraints` spells, with the labels that the member `labels` spells.
+-- The text shows the roots of the value's pool, which have the trees that the member `constraints` spells, with the
+-- labels that the member `labels` spells.
 pub record ShowsValue {F : Type 0} {p : ℕ} (m : Modular F p) (d : Data) (text : List ℕ) : Type 0 where
   pub pool : BaseNodes F
   pub roots : List ℕ
-  pub is_pool : IsPool base_reads pool
-  pub here : All (λ i. i < size pool) roots
+  pub are : AreRootsOf m d pool roots
   pub labels : List (List ℕ)
   pub spelt : (labelled_constraints m).spells d (map (tree_at pool) roots, labels)
   pub shows : ShowsRoots m pool roots labels text

@@ -1,17 +1,20 @@
 //! The answer to the word `explain`: the findings of the audit of a JSON object, with an explanation below each
 //! failure.
 
-ghost use Rattle.std.specs.Prelude.{◌≡◌, ◌<◌, ◌≤◌, ◌-◌, ◌++◌, ◌∷◌, [], length, map, All, IfOk, IfSome, OnOk, slice_get, string_bytes};
+ghost use Rattle.std.specs.Prelude.{◌≡◌, ◌<◌, ◌≤◌, ◌-◌, ◌++◌, ◌∷◌, [], ℕ, List, length, map, All, IfOk, IfSome, OnOk, slice_get, slice_index_or, string_bytes};
 ghost use Rattle.air_field.specs.Assignment.{row_assignment};
 ghost use Rattle.air_symbolic.specs.BaseLeaves.{base_leaves};
+ghost use Rattle.air_symbolic.specs.Pools.{size};
 ghost use Rattle.air_symbolic.specs.Reach.{Marked};
+ghost use Rattle.air_print.specs.Explained.{explained_lines};
 ghost use Rattle.air_print.specs.Lines.{lines_text};
 ghost use Rattle.air_print.specs.Names.{AreNames};
+ghost use Rattle.air_print.specs.Reading.{Reads};
 ghost use Rattle.air_print.specs.Rows.{trace_of};
 ghost use Rattle.air_print.specs.Values.{AreClosed};
 ghost use Rattle.air_report.specs.FailureTexts.{seen_failure};
 ghost use Rattle.air_object.specs.Parts.{InPool};
-ghost use Rattle.air_program.specs.AtHand.{KnownAt};
+ghost use Rattle.air_program.specs.AtHand.{KnownAt, AreKept};
 ghost use Rattle.air_program.specs.ByField.{AnswersParts};
 ghost use Rattle.air_program.specs.Explained.{failing_roots, cell_lines, PushesNames, PushesExplained, ExplainsInput, ExplainedIn};
 ghost use Rattle.air_program.specs.FlatAnswer.{input_of};
@@ -29,6 +32,7 @@ use air_print::{
 };
 use air_symbolic::{BaseLeaf, reached_nodes};
 use std::alloc::{AllocError, Global};
+use std::collections::BTreeMap;
 
 /// A row, and the values of the expressions there.
 #[derive(Drop)]
@@ -36,6 +40,9 @@ pub(crate) struct RowValues<F: PrimeField64> {
     pub(crate) row: usize,
     pub(crate) values: Vec<F>,
 }
+
+// What each root that was explained reads.
+type Kept<F> = BTreeMap<BaseId<F>, Vec<BaseId<F>>>;
 
 // The values at a row: the cached ones, if they are of this row.
 fn at_row<F: PrimeField64>(
@@ -100,6 +107,33 @@ fn push_cell_below<F: PrimeField64>(
     }
 }
 
+// Appends the lines that explain a root, and keeps what it reads.
+fn push_root_below<F: PrimeField64>(
+    alloc: Global,
+    text: &mut String,
+    pool: &BasePool<F>,
+    names: &Names<BaseLeaf<F>>,
+    values: &[F],
+    kept: &mut Kept<F>,
+    root: BaseId<F>,
+) -> Result<(), AllocError>
+    requires here { root < size pool.now }
+    requires places { length values.now ≡ size pool.now }
+    requires kept { AreKept pool.now.nodes kept.old }
+    ensures pushes { OnOk result ((read : List ℕ) × Reads pool.now.nodes root read
+        × (string_bytes text.new ≡ string_bytes text.old ++ lines_text (explained_lines F.residues
+        pool.now names.now.1 (λ i. slice_index_or values.now i F.ring.zero) root read))) }
+    ensures kept { OnOk result (AreKept pool.now.nodes kept.new) }
+{
+    if let Some(read) = kept.get(&root) {
+        return push_explained(alloc, text, pool, names, values, root, read);
+    }
+    let read = reads(alloc, pool, root)?;
+    push_explained(alloc, text, pool, names, values, root, &read)?;
+    kept.insert(root, read)?;
+    Ok(())
+}
+
 // Appends a failure and its explanation. Answers the values to cache for the next failure.
 fn push_explained_failure<F: PrimeField64>(
     alloc: Global,
@@ -109,17 +143,20 @@ fn push_explained_failure<F: PrimeField64>(
     marks: &[Option<BaseId<F>>],
     trace: &TraceRows<'_, F>,
     at_hand: Option<RowValues<F>>,
+    kept: &mut Kept<F>,
     failure: &ConstraintFailure,
 ) -> Result<Option<RowValues<F>>, AllocError>
     requires marks { AreClosed air.now.pool.nodes marks.now }
     requires roots { All (λ i. Marked marks.now i) air.now.roots.items }
     requires known { IfSome at_hand
         (KnownAt F.ring (trace_of trace.now) air.now.pool.nodes marks.now) }
+    requires kept { AreKept air.now.pool.nodes kept.old }
     ensures pushes { OnOk result (PushesExplained F.residues air.now.pool air.now.roots.items
         air.now.beside.cells.items (trace_of trace.now) names.now.1 (seen_failure failure.now ∷ [])
         (string_bytes text.old) (string_bytes text.new)) }
     ensures known { IfOk result (λ at. IfSome at
         (KnownAt F.ring (trace_of trace.now) air.now.pool.nodes marks.now)) }
+    ensures kept { OnOk result (AreKept air.now.pool.nodes kept.new) }
 {
     push_failure(alloc, text, failure)?;
     let Some(root) = air.roots.get(failure.constraint) else {
@@ -130,8 +167,7 @@ fn push_explained_failure<F: PrimeField64>(
         return Ok(at_hand);
     }
     let at = at_row(alloc, &air.pool, marks, trace, at_hand, failure.row)?;
-    let read = reads(alloc, &air.pool, *root)?;
-    push_explained(alloc, text, &air.pool, names, &at.values, *root, &read)?;
+    push_root_below(alloc, text, &air.pool, names, &at.values, kept, *root)?;
     Ok(Some(at))
 }
 
@@ -152,8 +188,11 @@ fn push_failures<F: PrimeField64>(
         return Err(AllocError);
     };
     let mut at_hand = None;
+    let mut kept = BTreeMap::new(alloc);
     for failure in failures {
-        at_hand = push_explained_failure(alloc, text, air, names, &marks, trace, at_hand, failure)?;
+        at_hand = push_explained_failure(
+            alloc, text, air, names, &marks, trace, at_hand, &mut kept, failure,
+        )?;
     }
     Ok(())
 }

@@ -7,6 +7,7 @@ mod commands;
 mod explain;
 mod flat;
 mod input;
+pub mod laws;
 pub mod program;
 pub mod refusals;
 mod show;

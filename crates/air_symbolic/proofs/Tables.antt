@@ -1,10 +1,11 @@
 -- A pool as contracts see it: the nodes of its table, over its base.
-use Rattle.std.proofs.Common.{◌≡◌, ◌≢◌, ℕ, List, [], ◌∷◌, ◌++◌, length, sym, ap, subst, ◌∙◌, arith}
+use Rattle.std.proofs.Common.{◌≡◌, ◌≢◌, ℕ, ◌+◌, List, [], ◌∷◌, ◌++◌, length, sym, ap, subst, ◌∙◌, arith, inr}
 use Rattle.std.proofs.Math.ListN.{length-append}
 use Rattle.std.specs.Prelude.{Some, slice_get}
 use Rattle.air_field.specs.Ring.{CommRing}
 use Rattle.air_symbolic.specs.Leaves.{Leaves, LeafLaws}
 use Rattle.air_symbolic.specs.Nodes.{unfold_node, tree_of, NodeFits, WellFormed, IsNode}
+use Rattle.air_symbolic.specs.Numbered.{Numbers}
 use Rattle.air_symbolic.specs.Pools.{Pool, on_base, IsPool, IsNodeList, FitsBase, Grown, HasTree}
 use Rattle.air_symbolic.specs.laws.Pools.{Grown-under, Grown-push}
 use Rattle.air_symbolic.specs.laws.Numbers.{tree_of-newest}
@@ -45,3 +46,10 @@ module _ {U A F : Type 0} {r : CommRing F} {reads : U → Leaves A F} {grows : U
   pub Grown-under-seen : (v : U) → grows u v → Grown grows reads p (record { base = v; nodes = xs })
   Grown-under-seen v g =
       subst (λ (q : Pool U A). Grown grows reads q (record { base = v; nodes = xs })) seen (Grown-under r reads grows empty laws (record { base = u; nodes = xs }) v g)
+
+-- a node at the table's end has the next number
+pub number-pushed : {U A : Type 0} (p : Pool U A) (u : U) (xs : List (SymbolicExpr A)) → record { base = u; nodes = xs } ≡ p → (ys : List (SymbolicExpr A)) (n : SymbolicExpr A) (i : ℕ) → ys ≡ xs ++ n ∷ [] → i ≡ length xs
+    → Numbers p (record { base = u; nodes = ys }) i
+number-pushed p u xs seen ys n i pushed last =
+    let count = ap (λ (q : Pool _ _). length q.nodes) seen in
+    inr (last ∙ count, ap length pushed ∙ length-append xs (n ∷ []) ∙ ap (λ k. k + 1) count)

@@ -18,6 +18,7 @@ pub mod Weights
 pub mod DegreeTables
 pub mod Runs
 pub mod Numbering
+pub mod Numbered
 pub mod BaseLeaves
 pub mod ExtLeaves
 pub mod ExtPool

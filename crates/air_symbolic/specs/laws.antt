@@ -3,6 +3,7 @@ pub mod Nodes
 pub mod Numbers
 pub mod Pools
 pub mod Sharing
+pub mod Numbered
 pub mod WholeTrees
 pub mod BasePool
 pub mod BaseLeaves

@@ -6,7 +6,8 @@ ghost use Rattle.air_field.specs.Term.{Leaf, Term};
 ghost use Rattle.air_field.specs.Polynomial.{polynomial, SamePolynomial, HasDegreeAtMost};
 ghost use Rattle.air_field.specs.Degree.{degree_by};
 ghost use Rattle.air_field.specs.Comparison.{IsExactOrder};
-ghost use Rattle.air_symbolic.specs.Pools.{FitsBase, PoolMeans, tree_at, term_at, KeepsTree, size};
+ghost use Rattle.air_symbolic.specs.Pools.{Pool, IsPool, FitsBase, PoolMeans, tree_at, term_at, KeepsTree, size};
+ghost use Rattle.air_symbolic.specs.Numbered.{trees_in};
 ghost use Rattle.air_symbolic.specs.ExtLeaves.{ext_reads};
 ghost use Rattle.air_symbolic.specs.ExtPool.{GrowsWithBase};
 ghost use Rattle.air_symbolic.specs.ExtTrees.{whole_tree_at, KeepsWholeTree};
@@ -29,6 +30,12 @@ pub fn is_same_tree<A: SymLeaf>(pool: &ExprPool<A>, x: ExprId<A>, y: ExprId<A>) 
     pool.nodes_fit();
     x == y
 }
+
+/// Two pools over one base are equal if they have the same trees in the order of their numbers.
+pub fn pools_are_their_trees<A: SymLeaf>()
+    ensures { (p q : Pool A.Base A) → IsPool A.reads p → IsPool A.reads q → q.base ≡ p.base
+        → trees_in q ≡ trees_in p → q ≡ p }
+{}
 
 /// Two numbers of an extension pool are equal exactly if their trees are, where a Base leaf is its whole base tree.
 pub fn is_same_whole_tree<F: Field, EF: ExtensionField<F>>(

@@ -4,7 +4,7 @@
 
 ghost use Rattle.std.specs.Prelude.{◌≤◌, ◌^◌};
 
-use air_blake3::{Compression, row_of_block};
+use air_blake3::{Compression, are_compressions, row_of_block};
 use blake3::{hash, start_words};
 use p3_air::{
     AirError, BabyBear, ConstraintReport, Field, PrimeField64, RowMajorMatrix, audit_air,
@@ -100,6 +100,15 @@ fn show_audit(rt: HostRuntime, trace: &RowMajorMatrix<BabyBear>) -> io::Result<(
     }
 }
 
+/// Prints whether a check lists no failure, so that each row holds a compression.
+fn show_check(rt: HostRuntime, trace: &RowMajorMatrix<BabyBear>) -> io::Result<()> {
+    match are_compressions(rt.alloc(), trace) {
+        Ok(true) => println!(rt; "compressions"),
+        Ok(false) => println!(rt; "no compressions"),
+        Err(error) => println!(rt; "refused: {error}"),
+    }
+}
+
 /// Changes two cells: the lowest bit of output word 0 in the second row, and a limb of the first round in the first
 /// row.
 fn spoil(values: &mut Vec<BabyBear>) {
@@ -152,7 +161,8 @@ fn show(rt: HostRuntime, is_spoilt: bool) -> io::Result<()> {
         Ok(trace) => {
             show_digest(rt, &trace, 0)?;
             show_digest(rt, &trace, 1)?;
-            show_audit(rt, &trace)
+            show_audit(rt, &trace)?;
+            show_check(rt, &trace)
         }
         Err(error) => println!(rt; "refused: {error}"),
     }

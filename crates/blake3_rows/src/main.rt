@@ -1,15 +1,17 @@
 //! Reads a message of at most 1,024 bytes from standard input, makes the trace of its blocks, and prints the message's
 //! digest, the counts and the findings of an audit. With a row and a column as words, that cell is changed before the
-//! audit.
+//! audit. With the word `object`, it prints the AIR and the trace as an object instead.
 #![tactic(auto)]
 
 ghost use Rattle.std.specs.Prelude.{◌≤◌, ◌^◌, IfOk, length};
 
 mod findings;
+mod object;
 mod refusals;
 mod words;
 
 use findings::{Findings, findings_of};
+use object::object_of_message;
 use p3_air::BabyBear;
 use refusals::Refusal;
 use std::io::{ErrorKind, Read};
@@ -24,6 +26,17 @@ fn given_words(rt: &HostRuntime) -> io::Result<Vec<String>> {
         words.push(word)?;
     }
     Ok(words)
+}
+
+/// Whether the only word is `object`.
+fn asks_for_object(rt: &HostRuntime) -> bool {
+    match given_words(rt) {
+        Ok(words) => match words.as_slice() {
+            [word] => word.as_str() == "object",
+            _ => false,
+        },
+        Err(_) => false,
+    }
 }
 
 /// The cell that the words name, if there are any. A word that isn't UTF-8 is not a number.
@@ -60,6 +73,13 @@ fn read_findings(rt: &HostRuntime) -> Result<Findings, Refusal> {
     findings_of::<BabyBear>(rt.alloc(), &message, cell)
 }
 
+/// The object of the input, as text.
+fn read_object(rt: &HostRuntime) -> Result<String, Refusal> {
+    let message = read_message(rt)?;
+    let object = object_of_message(rt.alloc(), &message)?;
+    Ok(object.to_string(rt.alloc())?)
+}
+
 /// Prints a name and eight words, each little-endian.
 fn show_words(rt: &HostRuntime, name: &str, words: [u32; 8]) -> io::Result<()> {
     print!(rt; "{name} ")?;
@@ -88,11 +108,37 @@ fn show(rt: &HostRuntime, found: &Findings) -> io::Result<u8> {
     Ok(1)
 }
 
+/// Prints why there is no answer; the status is 2.
+fn show_refusal(rt: &HostRuntime, why: Refusal) -> io::Result<u8> {
+    println!(rt; "refused: {}", why.name())?;
+    Ok(2)
+}
+
+/// Prints the object of the input.
+fn show_object(rt: &HostRuntime) -> io::Result<u8> {
+    match read_object(rt) {
+        Ok(text) => {
+            println!(rt; "{text}")?;
+            Ok(0)
+        }
+        Err(why) => show_refusal(rt, why),
+    }
+}
+
+/// Prints the findings about the input.
+fn show_findings(rt: &HostRuntime) -> io::Result<u8> {
+    match read_findings(rt) {
+        Ok(found) => show(rt, &found),
+        Err(why) => show_refusal(rt, why),
+    }
+}
+
 /// Returns a status, never an `Err`, which would print to standard error.
 fn main(rt: HostRuntime) -> ExitCode {
-    let shown = match read_findings(&rt) {
-        Ok(found) => show(&rt, &found),
-        Err(why) => println!(rt; "refused: {}", why.name()).map(|_| 2u8),
+    let shown = if asks_for_object(&rt) {
+        show_object(&rt)
+    } else {
+        show_findings(&rt)
     };
     match shown {
         Ok(status) => ExitCode::from(status),

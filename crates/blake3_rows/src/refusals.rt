@@ -3,6 +3,7 @@ ghost use Rattle.std.specs.Prelude.{◌≡◌};
 ghost use Rattle.blake3_rows.specs.Refusals.{refusal_name};
 
 use air_blake3::TraceError;
+use air_export::ExportError;
 use p3_air::AirError;
 use std::alloc::{AllocError, AllocFailed};
 
@@ -69,6 +70,15 @@ impl From<AirError> for Refusal {
     fn from(error: AirError) -> Refusal {
         match error {
             AirError::Memory => Refusal::Memory,
+            _ => Refusal::Audit,
+        }
+    }
+}
+
+impl From<ExportError> for Refusal {
+    fn from(error: ExportError) -> Refusal {
+        match error {
+            ExportError::Air(error) => Refusal::from(error),
             _ => Refusal::Audit,
         }
     }

@@ -3,8 +3,8 @@
 #![tactic(auto)]
 
 use p3_air::{
-    AirError, BabyBear, Constraints, Field, FlatAir, RowMajorMatrix, TraceRows, print_audit,
-    trace_of_rows,
+    AirError, BabyBear, Constraints, Expressions, Field, FlatAir, RowMajorMatrix, TraceRows,
+    print_audit, trace_of_rows,
 };
 use std::alloc::Global;
 use std::io;
@@ -21,33 +21,29 @@ fn squares<F: Field>(alloc: Global) -> Result<RowMajorMatrix<F>, AirError> {
 /// The public value is the number of selected rows.
 fn lookup<F: Field>(alloc: Global) -> Result<FlatAir<F>, AirError> {
     let table = squares(alloc)?;
-    let c = Constraints::new(alloc, 0)
+    let e = Expressions::new(alloc);
+    let mut c = Constraints::new(alloc, &e, 0)
         .with_public_values(1)
         .with_preprocessed(table);
     let (x, y, selector, count) = (c.column(), c.column(), c.column(), c.column());
     let selected = selector.current();
     c.named("selector is a bit").assert_bool(selected);
-    let of_table = c.when(selected).named("table");
-    of_table
-        .named("x")
-        .assert_eq(x.current(), c.preprocessed_current(0));
-    of_table
-        .named("y")
-        .assert_eq(y.current(), c.preprocessed_current(1));
-    let counted = c.named("count");
-    counted
-        .when_first_row()
-        .named("begins")
+    c.when(selected)
+        .named("table::x")
+        .assert_eq(x.current(), e.preprocessed_current(0));
+    c.when(selected)
+        .named("table::y")
+        .assert_eq(y.current(), e.preprocessed_current(1));
+    c.when_first_row()
+        .named("count::begins")
         .assert_eq(count.current(), selected);
     let more = count.current() + selector.next();
-    counted
-        .when_transition()
-        .named("rises")
+    c.when_transition()
+        .named("count::rises")
         .assert_eq(count.next(), more);
-    counted
-        .when_last_row()
-        .named("ends")
-        .assert_eq(count.current(), c.public(0));
+    c.when_last_row()
+        .named("count::ends")
+        .assert_eq(count.current(), e.public(0));
     c.into_air()
 }
 

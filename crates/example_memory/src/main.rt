@@ -2,14 +2,17 @@
 #![tactic(auto)]
 
 use p3_air::boundary::BoundaryEnd;
-use p3_air::{AirError, BabyBear, Constraints, Field, FlatAir, print_audit, trace_of_rows};
+use p3_air::{
+    AirError, BabyBear, Constraints, Expressions, Field, FlatAir, print_audit, trace_of_rows,
+};
 use std::alloc::Global;
 use std::io;
 
 /// A row is an access: a write or a read of a value at an address, at a clock time. While the address stays, the clock
 /// increases by 1 to 256; otherwise the address does.
 fn memory<F: Field>(alloc: Global) -> Result<FlatAir<F>, AirError> {
-    let c = Constraints::new(alloc, 0)
+    let e = Expressions::new(alloc);
+    let mut c = Constraints::new(alloc, &e, 0)
         .with_public_values(1)
         .with_periodic_numbers(&[0, 1])
         .with_boundary(2, BoundaryEnd::First, 0);
@@ -19,27 +22,33 @@ fn memory<F: Field>(alloc: Global) -> Result<FlatAir<F>, AirError> {
 
     c.named("write is a bit").assert_bool(is_write.current());
     c.named("same is a bit").assert_bool(same.current());
-    c.named("parity").assert_eq(parity.current(), c.periodic(0));
+    c.named("parity").assert_eq(parity.current(), e.periodic(0));
     c.named("gap").assert_bools_in(gap_bits);
     let gap = gap_bits.pack();
 
-    let step = c.when_transition().named("step");
-    let stays = step.when(same.current());
-    stays
-        .named("address stays")
-        .assert_eq(address.next(), address.current());
-    stays
-        .named("clock rises")
-        .assert_eq(clock.next(), clock.current() + gap + 1);
+    let stays = same.current();
+    let moves = 1 - stays;
     let is_read = 1 - is_write.next();
-    let read = stays.when(is_read).named("read");
-    read.assert_eq(value.next(), value.current());
-    let moves = step.when(1 - same.current());
-    moves
-        .named("address rises")
+    c.when_transition()
+        .when(stays)
+        .named("step::address stays")
+        .assert_eq(address.next(), address.current());
+    c.when_transition()
+        .when(stays)
+        .named("step::clock rises")
+        .assert_eq(clock.next(), clock.current() + gap + 1);
+    c.when_transition()
+        .when(stays)
+        .when(is_read)
+        .named("step::read")
+        .assert_eq(value.next(), value.current());
+    c.when_transition()
+        .when(moves)
+        .named("step::address rises")
         .assert_eq(address.next(), address.current() + gap + 1);
-    moves
-        .named("a new address is written")
+    c.when_transition()
+        .when(moves)
+        .named("step::a new address is written")
         .assert_one(is_write.next());
     c.when_last_row().named("end").assert_zero(same.current());
     c.into_air()

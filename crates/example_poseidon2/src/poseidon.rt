@@ -1,9 +1,9 @@
 //! Poseidon2 as an AIR: each row is one permutation.
 use crate::constants::{DIAGONAL, EXTERNAL, INTERNAL};
-use p3_air::{AirError, BabyBear, Claims, Constraints, Expr, FlatAir};
+use p3_air::{AirError, BabyBear, Constraints, Expr, Expressions, FlatAir};
 use std::alloc::Global;
 
-type Element<'a> = Expr<'a, BabyBear>;
+type Element<'a> = Expr<'a>;
 
 type Four<'a> = [Element<'a>; 4];
 
@@ -69,7 +69,7 @@ fn internal_layer<'a>(state: State<'a>) -> State<'a> {
 }
 
 /// x^7. One new column holds x^3 and another x^7.
-fn s_box<'a>(c: &'a Constraints<BabyBear>, x: Element<'a>) -> Element<'a> {
+fn s_box<'a>(c: &mut Constraints<'a, BabyBear>, x: Element<'a>) -> Element<'a> {
     let cube = c.column().current();
     let seventh = c.column().current();
     c.assert_eq(cube, x.cube());
@@ -77,7 +77,7 @@ fn s_box<'a>(c: &'a Constraints<BabyBear>, x: Element<'a>) -> Element<'a> {
     seventh
 }
 
-fn s_boxes<'a>(c: &'a Constraints<BabyBear>, x: Four<'a>, constants: [u64; 4]) -> Four<'a> {
+fn s_boxes<'a>(c: &mut Constraints<'a, BabyBear>, x: Four<'a>, constants: [u64; 4]) -> Four<'a> {
     let [x0, x1, x2, x3] = x;
     [
         s_box(c, x0 + constants[0]),
@@ -88,7 +88,7 @@ fn s_boxes<'a>(c: &'a Constraints<BabyBear>, x: Four<'a>, constants: [u64; 4]) -
 }
 
 fn external_round<'a>(
-    c: &'a Constraints<BabyBear>,
+    c: &mut Constraints<'a, BabyBear>,
     state: State<'a>,
     constants: &[[u64; 4]; 4],
 ) -> State<'a> {
@@ -101,45 +101,49 @@ fn external_round<'a>(
     ))
 }
 
-fn internal_round<'a>(c: &'a Constraints<BabyBear>, state: State<'a>, constant: u64) -> State<'a> {
+fn internal_round<'a>(
+    c: &mut Constraints<'a, BabyBear>,
+    state: State<'a>,
+    constant: u64,
+) -> State<'a> {
     let (w, x, y, z) = state;
     let [w0, w1, w2, w3] = w;
     internal_layer(([s_box(c, w0 + constant), w1, w2, w3], x, y, z))
 }
 
 // Adds four columns.
-fn four<'a>(c: &'a Constraints<BabyBear>) -> Four<'a> {
+fn four<'a>(c: &mut Constraints<'a, BabyBear>) -> Four<'a> {
     let x = c.columns(4);
     [x.current(0), x.current(1), x.current(2), x.current(3)]
 }
 
 // Adds four columns and asserts that they hold the elements.
-fn assert_in_columns<'a>(
-    c: &'a Constraints<BabyBear>,
-    claims: Claims<'a, BabyBear>,
-    elements: Four<'a>,
-) {
-    claims.assert_eq_arrays(&four(c), &elements);
+fn assert_in_columns<'a>(c: &mut Constraints<'a, BabyBear>, index: usize, elements: Four<'a>) {
+    let columns = four(c);
+    c.named("output")
+        .at(index)
+        .assert_eq_arrays(&columns, &elements);
 }
 
 /// A row holds the input, x^3 and x^7 of each S-box, and the output: 314 columns, degree 3.
 pub fn poseidon(alloc: Global) -> Result<FlatAir<BabyBear>, AirError> {
-    let c = Constraints::new(alloc, 0);
-    let mut state = external_layer((four(&c), four(&c), four(&c), four(&c)));
+    let e = Expressions::new(alloc);
+    let mut c = Constraints::new(alloc, &e, 0);
+    let input = (four(&mut c), four(&mut c), four(&mut c), four(&mut c));
+    let mut state = external_layer(input);
     for constants in &EXTERNAL[..4] {
-        state = external_round(&c, state, constants);
+        state = external_round(&mut c, state, constants);
     }
     for constant in &INTERNAL {
-        state = internal_round(&c, state, *constant);
+        state = internal_round(&mut c, state, *constant);
     }
     for constants in &EXTERNAL[4..] {
-        state = external_round(&c, state, constants);
+        state = external_round(&mut c, state, constants);
     }
     let (w, x, y, z) = state;
-    let output = c.named("output");
-    assert_in_columns(&c, output.at(0), w);
-    assert_in_columns(&c, output.at(1), x);
-    assert_in_columns(&c, output.at(2), y);
-    assert_in_columns(&c, output.at(3), z);
+    assert_in_columns(&mut c, 0, w);
+    assert_in_columns(&mut c, 1, x);
+    assert_in_columns(&mut c, 2, y);
+    assert_in_columns(&mut c, 3, z);
     c.into_air()
 }

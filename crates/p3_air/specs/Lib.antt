@@ -174,4 +174,10 @@ pub use Rattle.air_draft.specs.ExtDraftTerms
 pub use Rattle.air_draft.specs.DraftEntries
 pub use Rattle.air_draft.specs.Drafts
 pub use Rattle.air_draft.specs.ExtDrafts
+-- what the calls of expressions and constraints write
+pub use Rattle.air_tape.specs.Tapes
+pub mod HandleView
+pub mod HandleSteps
+pub mod HandleClaims
+pub mod HandleDrafts
 pub mod TraceRows

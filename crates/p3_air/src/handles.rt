@@ -1,9 +1,6 @@
-//! What an author holds: constraints in the making, expressions of them, and where claims of them are made.
+//! What an author claims with: constraints in the making, and groups, under conditions and labels.
 
+pub mod claiming;
 pub mod claims;
-pub mod columns;
 pub mod constraints;
-pub mod expr;
-mod operators;
-pub mod shared;
-pub mod windows;
+pub mod finishing;

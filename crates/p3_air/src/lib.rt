@@ -3,11 +3,12 @@
 //! An AIR is written in code alone, with ordinary operators on handles, and `into_air` makes the AIR of it:
 //!
 //!     fn counter(alloc: Global) -> Result<FlatAir<BabyBear>, AirError> {
-//!         let c = Constraints::new(alloc, 2);
-//!         let (bit, count) = (c.current(0), c.current(1));
+//!         let e = Expressions::new(alloc);
+//!         let mut c = Constraints::new(alloc, &e, 2);
+//!         let (bit, count) = (e.current(0), e.current(1));
 //!         c.assert_bool(bit);
 //!         c.when_first_row().assert_zero(count);
-//!         c.when_transition().assert_eq(c.next(1), count + bit);
+//!         c.when_transition().assert_eq(e.next(1), count + bit);
 //!         c.into_air()
 //!     }
 //!
@@ -20,21 +21,21 @@
 //! Where that is Ok, and the report lists nothing, each constraint of the AIR is zero at each row. [`print_audit`] prints
 //! what an audit found, and [`print_constraints`] the constraints as people read them.
 //!
-//! A call writes an entry of a [`Draft`], or a few. What AIR a draft makes is proved ([`Draft::into_air`],
-//! [`ExtDraft::into_air`]); that a call writes its own entries is tested, since no contract sees into the cells that the
-//! handles share.
+//! A call writes one entry: an operator its step, an assertion its claim and nothing else. [`Constraints::into_listed`]
+//! returns the [`Draft`] of all entries, in which the step of each expression is found, and [`Draft::into_air`] makes the
+//! AIR of it. Calls over an extension are tested, not proved, to write their entries.
 //!
 //! | to | call | its promise |
 //! |---|---|---|
-//! | write an AIR in code alone | [`Constraints`] | the AIR records the draft that the calls wrote (tested for the calls themselves) |
-//! | the same over an extension | [`ExtConstraints`] | the same, for constraints of both kinds |
+//! | write an AIR in code alone | [`Expressions`], [`Constraints`] | each call writes its own entry; the AIR records them |
+//! | the same over an extension | [`ExtExpressions`], [`ExtConstraints`] | the AIR records its draft; the calls themselves are tested |
 //! | write one that declares its list | [`author`], [`utils`], [`BaseAir`] | `eval` asserts just the declared list on each builder |
 //! | make a trace | [`trace_of_rows`], [`TraceRows`], [`with_bits`], [`word_with_bits`] | the rows and numbers that were given |
 //! | check it | [`check_constraints`], [`check_all_constraints`] | the first fault; each row and constraint not zero |
 //! | check it with a permutation trace | [`check_all_constraints_with_permutation`] | each row and constraint not zero, the extension's too |
 //! | check a row | [`check_row_with_permutation`] | each constraint that isn't zero there, the extension's too |
 //! | record an AIR | [`get_all_symbolic_constraints`] | of each constraint its polynomial, at no greater degree |
-//! | size the quotient | [`get_max_constraint_degree`] | the degree of what is recorded, as the domain counts |
+//! | size the quotient | [`get_max_constraint_degree`] | a bound on the degrees of a recording, the least from three rows on |
 //! | compare its shape | [`has_declared_shape`] | as many columns and public values as the AIR declares |
 //! | audit | [`audit_air`] | records, checks and sizes: what is recorded is what is tested |
 //! | fold | `fold_air`, of the crate air_folder | what is folded is what is recorded, by powers of alpha |
@@ -44,6 +45,7 @@
 //! What users need of the crates below is passed on here. What differs at a call from Rust is in `CALLING.md`.
 #![tactic(auto)]
 
+pub mod expressions;
 pub mod extension;
 pub mod gadgets;
 pub mod handles;
@@ -176,16 +178,22 @@ pub use air_draft::Draft;
 pub use air_draft::ExtClaimed;
 pub use air_draft::ExtDraft;
 pub use air_draft::ExtStep;
+pub use air_draft::Factor;
+pub use air_draft::Operand;
 pub use air_draft::Step;
+pub use expressions::columns::Column;
+pub use expressions::columns::Columns;
+pub use expressions::listing::Listing;
+pub use expressions::nodes::Expressions;
+pub use expressions::view::Expr;
+pub use expressions::view::Node;
+pub use expressions::windows::Window;
 pub use extension::claims::ExtClaims;
 pub use extension::constraints::ExtConstraints;
 pub use extension::expr::ExtExpr;
+pub use extension::shared::ExtExpressions;
 pub use handles::claims::Claims;
-pub use handles::columns::Column;
-pub use handles::columns::Columns;
 pub use handles::constraints::Constraints;
-pub use handles::expr::Expr;
-pub use handles::windows::Window;
 pub use printing::print_audit;
 pub use printing::print_constraints;
 pub use rows::TraceRows;

@@ -2,19 +2,22 @@
 use crate::ext_shown::print_ext_shown;
 use p3_air::boundary::BoundaryEnd;
 use p3_air::{
-    AirError, BabyBear, BinomialExtensionField as Ext, ExtConstraints, ExtensionField, Field,
-    FlatExtAir, trace_of_rows,
+    AirError, BabyBear, BinomialExtensionField as Ext, ExtConstraints, ExtExpressions,
+    ExtensionField, Field, FlatExtAir, trace_of_rows,
 };
 use std::alloc::Global;
 use std::io;
 
 type Air = Result<FlatExtAir<BabyBear, Ext>, AirError>;
 
-type Writing = ExtConstraints<BabyBear, Ext>;
+type Extending = ExtExpressions<BabyBear, Ext>;
+
+type Writing<'a> = ExtConstraints<'a, BabyBear, Ext>;
 
 fn operators(alloc: Global) -> Air {
-    let c = Writing::new(alloc, 1);
-    let (z, w, x) = (c.permutation(0), c.permutation(1), c.current(0));
+    let e = Extending::new(alloc);
+    let mut c = Writing::new(alloc, &e, 1);
+    let (z, w, x) = (e.permutation(0), e.permutation(1), e.current(0));
     c.assert_zero_ext(z + w);
     c.assert_zero_ext(z - w);
     c.assert_zero_ext(z * w);
@@ -35,16 +38,17 @@ fn operators(alloc: Global) -> Air {
 }
 
 fn assigning(alloc: Global) -> Air {
-    let c = Writing::new(alloc, 1);
-    let (z, x) = (c.permutation(0), c.current(0));
+    let e = Extending::new(alloc);
+    let mut c = Writing::new(alloc, &e, 1);
+    let (z, x) = (e.permutation(0), e.current(0));
     let mut sum = z;
-    sum += c.permutation(1);
+    sum += e.permutation(1);
     c.assert_zero_ext(sum);
     let mut difference = z;
-    difference -= c.permutation(1);
+    difference -= e.permutation(1);
     c.assert_zero_ext(difference);
     let mut product = z;
-    product *= c.permutation(1);
+    product *= e.permutation(1);
     c.assert_zero_ext(product);
     let mut sum = z;
     sum += x;
@@ -68,8 +72,9 @@ fn assigning(alloc: Global) -> Air {
 }
 
 fn powers(alloc: Global) -> Air {
-    let c = Writing::new(alloc, 1);
-    let z = c.permutation(0);
+    let e = Extending::new(alloc);
+    let mut c = Writing::new(alloc, &e, 1);
+    let z = e.permutation(0);
     c.assert_zero_ext(z.double());
     c.assert_zero_ext(z.square());
     c.assert_zero_ext(z.cube());
@@ -82,31 +87,35 @@ fn powers(alloc: Global) -> Air {
 
 fn leaves(alloc: Global) -> Air {
     let table = trace_of_rows(alloc, &[[7, 8]])?;
-    let c = Writing::new(alloc, 2)
+    let e = Extending::new(alloc);
+    let mut c = Writing::new(alloc, &e, 2)
         .with_public_values(2)
         .with_preprocessed(table)
         .with_periodic_numbers(&[0, 1])
         .with_periodic(Vec::new(alloc))
         .with_boundary(1, BoundaryEnd::Last, 1);
     let root = Ext::from_basis_coefficients(&[5, 6, 0, 7].map(BabyBear::new));
-    c.assert_zero_ext(c.permutation(2));
-    c.assert_zero_ext(c.permutation_next(2));
-    c.assert_zero_ext(c.challenge(1));
-    c.assert_zero_ext(c.permutation_value(3));
-    c.assert_zero_ext(c.ext_constant(root));
-    c.assert_zero_ext(c.lift(c.current(1)));
-    c.assert_zero_ext(c.lift(c.preprocessed_next(1)));
-    c.assert_zero_ext(c.lift(c.periodic(0)));
-    c.assert_zero_ext(c.lift(c.public(1)));
-    c.assert_zero_ext(c.lift(c.constant(BabyBear::TWO)));
-    c.assert_zero_ext(c.lift(c.column().next() + 1));
+    c.assert_zero_ext(e.permutation(2));
+    c.assert_zero_ext(e.permutation_next(2));
+    c.assert_zero_ext(e.challenge(1));
+    c.assert_zero_ext(e.permutation_value(3));
+    c.assert_zero_ext(e.ext_constant(root));
+    c.assert_zero_ext(e.lift(e.current(1)));
+    c.assert_zero_ext(e.lift(e.preprocessed_next(1)));
+    c.assert_zero_ext(e.lift(e.periodic(0)));
+    c.assert_zero_ext(e.lift(e.public(1)));
+    let two = c.constant(BabyBear::TWO);
+    c.assert_zero_ext(e.lift(two));
+    let last = c.column();
+    c.assert_zero_ext(e.lift(last.next() + 1));
     c.into_air()
 }
 
 fn assertions(alloc: Global) -> Air {
-    let c = Writing::new(alloc, 2);
-    let (z, w) = (c.permutation(0), c.permutation(1));
-    let (x, y) = (c.current(0), c.current(1));
+    let e = Extending::new(alloc);
+    let mut c = Writing::new(alloc, &e, 2);
+    let (z, w) = (e.permutation(0), e.permutation(1));
+    let (x, y) = (e.current(0), e.current(1));
     c.assert_zero_ext(z);
     c.assert_zero(x);
     c.assert_one_ext(z);
@@ -120,33 +129,37 @@ fn assertions(alloc: Global) -> Air {
 }
 
 fn conditions(alloc: Global) -> Air {
-    let c = Writing::new(alloc, 2);
-    let (z, w) = (c.permutation(0), c.permutation(1));
-    let (x, y) = (c.current(0), c.current(1));
+    let e = Extending::new(alloc);
+    let mut c = Writing::new(alloc, &e, 2);
+    let (z, w) = (e.permutation(0), e.permutation(1));
+    let (x, y) = (e.current(0), e.current(1));
     c.when(x).assert_zero_ext(z);
     c.when_ne(x, y).assert_one_ext(z);
     c.when_first_row().assert_eq_ext(z, w);
     c.when_last_row().assert_zero_ext(z);
     c.when_transition().assert_zero_ext(z);
     c.when(x).when(y).assert_zero_ext(z);
-    c.when(x).when(y).assert_zero(c.next(0));
+    c.when(x).when(y).assert_zero(e.next(0));
     c.when(x).when_ne(x, y).assert_zero_ext(z);
     c.when(x).when_first_row().assert_zero_ext(z);
     c.when(x).when_last_row().assert_zero_ext(z);
     c.when(x).when_transition().assert_zero_ext(z);
-    let both = c.when(x);
+    let mut both = c.when(x);
     both.assert_zero(y);
     both.assert_zero_ext(w);
+    drop(both);
     c.into_air()
 }
 
 fn labels(alloc: Global) -> Air {
-    let c = Writing::new(alloc, 1);
-    let (z, w) = (c.permutation(0), c.permutation(1));
-    let all = c.named("all");
+    let e = Extending::new(alloc);
+    let mut c = Writing::new(alloc, &e, 1);
+    let (z, w) = (e.permutation(0), e.permutation(1));
+    let mut all = c.named("all");
     all.assert_zero_ext(z);
-    all.named("one").assert_one_ext(z);
-    all.at(7).assert_zero(c.current(0));
+    drop(all);
+    c.named("all").named("one").assert_one_ext(z);
+    c.named("all").at(7).assert_zero(e.current(0));
     c.assert_zero_ext(w);
     c.when_first_row().named("first").assert_zero_ext(z);
     c.named("zeros").assert_zeros_ext(&[z, w]);

@@ -4,9 +4,9 @@ use crate::ext_shown::{print_ext_shown, recorded_shown};
 use p3_air::author::*;
 use p3_air::{
     Air, AirLayout, BabyBear, BinomialExtensionField as Ext, ConstraintFailure,
-    DebugConstraintBuilder, ExtConstraints, ExtensionField, FlatExtAir, Permutation, Recorded,
-    RowMajorMatrix, RowMajorMatrixView, SymbolicAirBuilder, ViewPair, finish_recording,
-    get_all_symbolic_constraints, record_these, trace_of_rows,
+    DebugConstraintBuilder, ExtConstraints, ExtExpressions, ExtensionField, FlatExtAir,
+    Permutation, Recorded, RowMajorMatrix, RowMajorMatrixView, SymbolicAirBuilder, ViewPair,
+    finish_recording, get_all_symbolic_constraints, record_these, trace_of_rows,
 };
 use std::alloc::Global;
 use std::io;
@@ -16,17 +16,18 @@ type Product = FlatExtAir<BabyBear, Ext>;
 /// Column 0 of the permutation trace is one on row 0, and each row multiplies it by the challenge plus its column 0.
 /// Behind the last row it is what is exposed. A bit is claimed in between, of the base field.
 fn running_product(alloc: Global) -> Result<Product, AirError> {
-    let c = ExtConstraints::<BabyBear, Ext>::new(alloc, 2);
-    let value = c.current(0);
-    let (z, next) = (c.permutation(0), c.permutation_next(0));
-    let alpha = c.challenge(0);
+    let e = ExtExpressions::<BabyBear, Ext>::new(alloc);
+    let mut c = ExtConstraints::new(alloc, &e, 2);
+    let value = e.current(0);
+    let (z, next) = (e.permutation(0), e.permutation_next(0));
+    let alpha = e.challenge(0);
     c.when_first_row().assert_one_ext(z);
-    c.assert_bool(c.current(1));
+    c.assert_bool(e.current(1));
     c.when_transition()
         .named("product")
         .assert_eq_ext(next, z * (alpha + value));
     c.when_last_row()
-        .assert_eq_ext(c.permutation_value(0), z * (alpha + value));
+        .assert_eq_ext(e.permutation_value(0), z * (alpha + value));
     c.into_air()
 }
 

@@ -1,56 +1,66 @@
 //! What is refused of constraints over an extension.
 use crate::ext_shown::print_ext_shown;
 use p3_air::{
-    AirError, BabyBear, BinomialExtensionField as Ext, Claim, Claimed, Constraints, Draft,
-    ExtClaimed, ExtConstraints, ExtDraft, ExtEntry, ExtStep, FlatExtAir, SymbolicVariableExt,
+    AirError, BabyBear, BinomialExtensionField as Ext, Claim, Claimed, Draft, Expressions,
+    ExtClaimed, ExtConstraints, ExtDraft, ExtEntry, ExtExpressions, ExtStep, FlatExtAir,
+    SymbolicVariableExt,
 };
 use std::alloc::Global;
 use std::io;
 
 type Air = Result<FlatExtAir<BabyBear, Ext>, AirError>;
 
-type Writing = ExtConstraints<BabyBear, Ext>;
+type Extending = ExtExpressions<BabyBear, Ext>;
+
+type Writing<'a> = ExtConstraints<'a, BabyBear, Ext>;
 
 fn foreign_operand(alloc: Global) -> Air {
-    let c = Writing::new(alloc, 1);
-    let other = Writing::new(alloc, 1);
-    c.assert_zero_ext(c.permutation(0) + other.permutation(0));
+    let e = Extending::new(alloc);
+    let mut c = Writing::new(alloc, &e, 1);
+    let other = Extending::new(alloc);
+    c.assert_zero_ext(e.permutation(0) + other.permutation(0));
     c.into_air()
 }
 
 fn foreign_base(alloc: Global) -> Air {
-    let c = Writing::new(alloc, 1);
-    let other: Constraints<BabyBear> = Constraints::new(alloc, 1);
-    c.assert_zero_ext(c.permutation(0) * other.current(0));
+    let e = Extending::new(alloc);
+    let mut c = Writing::new(alloc, &e, 1);
+    let other = Expressions::new(alloc);
+    c.assert_zero_ext(e.permutation(0) * other.current(0));
     c.into_air()
 }
 
 fn foreign_claim(alloc: Global) -> Air {
-    let c = Writing::new(alloc, 1);
-    let other = Writing::new(alloc, 1);
+    let e = Extending::new(alloc);
+    let mut c = Writing::new(alloc, &e, 1);
+    let other = Extending::new(alloc);
     c.assert_zero_ext(other.permutation(0));
     c.into_air()
 }
 
 fn foreign_condition(alloc: Global) -> Air {
-    let c = Writing::new(alloc, 1);
-    let other = Writing::new(alloc, 1);
-    c.when(other.current(0)).assert_zero_ext(c.permutation(0));
+    let e = Extending::new(alloc);
+    let mut c = Writing::new(alloc, &e, 1);
+    let other = Extending::new(alloc);
+    c.when(other.current(0)).assert_zero_ext(e.permutation(0));
     c.into_air()
 }
 
 // The column past those handed out comes first, and then an expression of other constraints.
 fn first_fault(alloc: Global) -> Air {
-    let c = Writing::new(alloc, 0);
-    let other = Writing::new(alloc, 1);
-    c.assert_zero(c.columns(2).current(2));
+    let e = Extending::new(alloc);
+    let mut c = Writing::new(alloc, &e, 0);
+    let other = Extending::new(alloc);
+    let columns = c.columns(2);
+    c.assert_zero(columns.current(2));
     c.assert_zero_ext(other.permutation(0));
     c.into_air()
 }
 
 fn great_degree(alloc: Global) -> Air {
-    let c = Writing::new(alloc, 1);
-    let mut z = c.permutation(0);
+    let e = Extending::new(alloc);
+    let mut c = Writing::new(alloc, &e, 1);
+    let mut z = e.permutation(0);
     for _ in 0..64 {
         z = z.square();
     }
@@ -60,8 +70,9 @@ fn great_degree(alloc: Global) -> Air {
 
 // The degree of 2^63 is within, and under a condition of that degree it isn't.
 fn great_degree_under(alloc: Global) -> Air {
-    let c = Writing::new(alloc, 1);
-    let (mut z, mut x) = (c.permutation(0), c.current(0));
+    let e = Extending::new(alloc);
+    let mut c = Writing::new(alloc, &e, 1);
+    let (mut z, mut x) = (e.permutation(0), e.current(0));
     for _ in 0..63 {
         z = z.square();
         x = x.square();

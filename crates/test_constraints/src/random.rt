@@ -2,8 +2,8 @@
 use crate::shown::shown;
 use air_print::show;
 use p3_air::{
-    AirError, Algebra, BabyBear, BaseEntry, BaseLeaf, Constraints, Expr, ExprId, ExprPool, Field,
-    FlatAir, SymbolicVariable,
+    AirError, Algebra, BabyBear, BaseEntry, BaseLeaf, Constraints, Expr, ExprId, ExprPool,
+    Expressions, Field, FlatAir, SymbolicVariable,
 };
 use std::alloc::Global;
 use std::io;
@@ -93,16 +93,17 @@ fn at<E: Copy>(made: &[E], place: usize) -> Option<E> {
 
 /// Makes the call with handles.
 fn write<'a>(
-    c: &'a Constraints<BabyBear>,
-    made: &[Expr<'a, BabyBear>],
+    e: &'a Expressions,
+    c: &mut Constraints<'a, BabyBear>,
+    made: &[Expr<'a>],
     call: Call,
-) -> Option<Expr<'a, BabyBear>> {
+) -> Option<Expr<'a>> {
     match call {
-        Call::Current(i) => Some(c.current(i)),
-        Call::Next(i) => Some(c.next(i)),
-        Call::FirstRow => Some(c.is_first_row()),
-        Call::Transition => Some(c.is_transition()),
-        Call::Number(n) => Some(c.number(n)),
+        Call::Current(i) => Some(e.current(i)),
+        Call::Next(i) => Some(e.next(i)),
+        Call::FirstRow => Some(e.is_first_row()),
+        Call::Transition => Some(e.is_transition()),
+        Call::Number(n) => Some(e.number(n)),
         Call::Add(x, y) => Some(at(made, x)? + at(made, y)?),
         Call::Sub(x, y) => Some(at(made, x)? - at(made, y)?),
         Call::Mul(x, y) => Some(at(made, x)? * at(made, y)?),
@@ -114,11 +115,7 @@ fn write<'a>(
 }
 
 // Makes a call that asserts; it makes no expression.
-fn claim<'a>(
-    c: &'a Constraints<BabyBear>,
-    made: &[Expr<'a, BabyBear>],
-    call: Call,
-) -> Option<Expr<'a, BabyBear>> {
+fn claim<'a>(c: &mut Constraints<'a, BabyBear>, made: &[Expr<'a>], call: Call) -> Option<Expr<'a>> {
     match call {
         Call::AssertZero(x) => c.assert_zero(at(made, x)?),
         Call::AssertBool(x) => c.assert_bool(at(made, x)?),
@@ -136,10 +133,15 @@ fn claim<'a>(
 }
 
 // Makes the calls with handles.
-fn write_all(c: &Constraints<BabyBear>, alloc: Global, calls: &[Call]) -> Result<(), AirError> {
+fn write_all<'a>(
+    e: &'a Expressions,
+    c: &mut Constraints<'a, BabyBear>,
+    alloc: Global,
+    calls: &[Call],
+) -> Result<(), AirError> {
     let mut made = Vec::new(alloc);
     for call in calls {
-        if let Some(x) = write(c, &made, *call) {
+        if let Some(x) = write(e, c, &made, *call) {
             made.push(x)?;
         }
     }
@@ -148,8 +150,9 @@ fn write_all(c: &Constraints<BabyBear>, alloc: Global, calls: &[Call]) -> Result
 
 /// The AIR of calls, written with handles.
 fn written(alloc: Global, calls: &[Call]) -> Result<FlatAir<BabyBear>, AirError> {
-    let c = Constraints::new(alloc, 4);
-    write_all(&c, alloc, calls)?;
+    let e = Expressions::new(alloc);
+    let mut c = Constraints::new(alloc, &e, 4);
+    write_all(&e, &mut c, alloc, calls)?;
     c.into_air()
 }
 

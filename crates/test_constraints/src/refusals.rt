@@ -1,49 +1,55 @@
 //! What is refused.
 use crate::shown::print_shown;
-use p3_air::{AirError, BabyBear, Constraints, FlatAir};
+use p3_air::{AirError, BabyBear, Constraints, Expressions, FlatAir};
 use std::alloc::Global;
 use std::io;
 
 type Air = Result<FlatAir<BabyBear>, AirError>;
 
 fn foreign_operand(alloc: Global) -> Air {
-    let c = Constraints::new(alloc, 2);
-    let other: Constraints<BabyBear> = Constraints::new(alloc, 2);
-    c.assert_zero(c.current(0) + other.current(0));
+    let e = Expressions::new(alloc);
+    let mut c = Constraints::new(alloc, &e, 2);
+    let other = Expressions::new(alloc);
+    c.assert_zero(e.current(0) + other.current(0));
     c.into_air()
 }
 
 fn foreign_claim(alloc: Global) -> Air {
-    let c = Constraints::new(alloc, 2);
-    let other: Constraints<BabyBear> = Constraints::new(alloc, 2);
-    let _own = c.current(0);
+    let e = Expressions::new(alloc);
+    let mut c = Constraints::new(alloc, &e, 2);
+    let other = Expressions::new(alloc);
+    let _own = e.current(0);
     c.assert_zero(other.current(0));
     c.into_air()
 }
 
 fn foreign_condition(alloc: Global) -> Air {
-    let c = Constraints::new(alloc, 2);
-    let other: Constraints<BabyBear> = Constraints::new(alloc, 2);
-    c.when(other.current(0)).assert_zero(c.current(0));
+    let e = Expressions::new(alloc);
+    let mut c = Constraints::new(alloc, &e, 2);
+    let other = Expressions::new(alloc);
+    c.when(other.current(0)).assert_zero(e.current(0));
     c.into_air()
 }
 
 fn past_columns(alloc: Global) -> Air {
-    let c = Constraints::new(alloc, 0);
+    let e = Expressions::new(alloc);
+    let mut c = Constraints::new(alloc, &e, 0);
     let columns = c.columns(2);
     c.assert_zero(columns.current(2));
     c.into_air()
 }
 
 fn uneven_lists(alloc: Global) -> Air {
-    let c = Constraints::new(alloc, 2);
-    c.assert_eq_arrays(&[c.current(0), c.current(1)], &[c.current(0)]);
+    let e = Expressions::new(alloc);
+    let mut c = Constraints::new(alloc, &e, 2);
+    c.assert_eq_arrays(&[e.current(0), e.current(1)], &[e.current(0)]);
     c.into_air()
 }
 
 fn great_degree(alloc: Global) -> Air {
-    let c = Constraints::new(alloc, 1);
-    let mut x = c.current(0);
+    let e = Expressions::new(alloc);
+    let mut c = Constraints::new(alloc, &e, 1);
+    let mut x = e.current(0);
     for _ in 0..64 {
         x = x.square();
     }
@@ -53,8 +59,9 @@ fn great_degree(alloc: Global) -> Air {
 
 // A fourth power.
 fn fitting_degree(alloc: Global) -> Air {
-    let c = Constraints::new(alloc, 1);
-    let mut x = c.current(0);
+    let e = Expressions::new(alloc);
+    let mut c = Constraints::new(alloc, &e, 1);
+    let mut x = e.current(0);
     for _ in 0..2 {
         x = x.square();
     }

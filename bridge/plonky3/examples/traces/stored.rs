@@ -20,6 +20,9 @@ pub fn compare(tables: &[String]) -> io::Result<(usize, usize)> {
             let Some(over_field) = call_for(&object) else {
                 continue;
             };
+            if !wanted.as_deref().is_none_or(is_counted) {
+                continue;
+            }
             count += 1;
             let found = over_field(&object);
             if found != wanted {
@@ -29,6 +32,14 @@ pub fn compare(tables: &[String]) -> io::Result<(usize, usize)> {
         }
     }
     Ok((count, differ))
+}
+
+/// Whether p3-air can count the answer's degree. It computes the degrees of polynomials in `usize`, where those over
+/// rows overflow first.
+fn is_counted(answer: &str) -> bool {
+    let line = answer.lines().next().unwrap_or_default();
+    let degree = line.strip_prefix("degree ").map(str::parse::<u64>);
+    degree.is_none_or(|degree| degree.is_ok_and(|it| it < 1 << 32))
 }
 
 /// The objects of a table's runs of `air_check flat`, with the answers; no answer if the object is refused. The lines:

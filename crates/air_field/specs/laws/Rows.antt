@@ -48,3 +48,10 @@ matrix_of_rows h (suc w) values some count =
     let rest : length values % suc w ≡ 0 = ap (λ n. n % suc w) whole ∙ mod-mul-add h (suc w) 0 (omega arith) in
     let height : length values / suc w ≡ h = ap (λ n. n / suc w) whole ∙ div-mul-add h (suc w) 0 (omega arith) in
     rw (eqb-suc-zero w, rest, height)
+
+-- the values of whole rows are a matrix
+pub whole-rows : {T : Type 0} (h w : ℕ) (xs : List T) → length xs ≡ h * w → (w ≡ 0 → h ≡ 0)
+    → matrix_of w xs ≡ Ok (record { width = w; rows = rows_of h w xs })
+whole-rows h zero xs count none =
+    rw (none refl) (rw (count ∙ ap (λ n. n * 0) (none refl)) refl)
+whole-rows h (suc w) xs count none = matrix_of_rows h (suc w) xs (omega arith) count

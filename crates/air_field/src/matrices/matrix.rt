@@ -1,5 +1,5 @@
 //! A matrix; contracts describe it by its list of rows.
-ghost use Rattle.std.specs.Prelude.{◌≡◌, ◌+◌, ◌%◌, ◌<◌, Some, IfSome, length, slice_get};
+ghost use Rattle.std.specs.Prelude.{◌≡◌, ◌+◌, ◌%◌, ◌<◌, Some, IfSome, Ok, length, slice_get};
 ghost use Rattle.std.specs.Option.{option_copied, option_and_then};
 ghost use Rattle.air_field.specs.Matrix.{matrix_of};
 
@@ -61,6 +61,13 @@ impl<T: Copy> RowMajorMatrix<T> {
             width,
             height: len / width,
         })
+    }
+
+    /// The values, row by row.
+    pub fn values(&self) -> &[T]
+        ensures { matrix_of self.now.width result.now ≡ Ok self.now }
+    {
+        &self.values
     }
 
     /// The number of columns.

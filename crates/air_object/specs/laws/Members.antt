@@ -15,7 +15,7 @@ use Rattle.air_json.specs.laws.Readings.{by_some, number_found, text_found, err_
 use Rattle.air_json.specs.Spelling.{IsWholeNumber}
 use Rattle.air_json.specs.declared.errors.FlatError.{FlatError}
 use Rattle.air_json.specs.declared.errors.FlatError.TheVariants as faults
-use Rattle.air_object.specs.Objects.{list_of, at_most, needed_member, optional_member, both_or_none}
+use Rattle.air_object.specs.Objects.{list_of, at_most, needed_member, optional_member}
 use Rattle.air_object.specs.Members.{whole_number, ElementFault, element, constraint, constraints, boundary_cell, SpellsCap, cap, label, table_of, table, made, members, labelled_constraints}
 use Rattle.air_object.specs.Readers.{or_wrong_form, list_read, tree, trees, elements, columns, cell_read, cells, label_read, labels, cap_in, width_member, elements_member, table_member, constraints_member, periodic_member, boundary_member, cap_member, weight_member, labels_member, labelled_read, members_with, members_read}
 use Rattle.air_object.specs.laws.Agreement.{Agrees, by_form_agrees, list_agrees, at_most_agrees, needed_agrees, optional_agrees, given_agrees, then_agrees, both_agree, both_or_none_agrees}

@@ -68,7 +68,7 @@ module _ {A F : Type 0} (l : Leaves A F) where
 
   -- ---- The tree of a node over given trees
 
-  abbrev node_tree : (ℕ → Tree A) → SymbolicExpr A → Tree A
+  abbrev pub node_tree : (ℕ → Tree A) → SymbolicExpr A → Tree A
   node_tree at (Leaf a) = leaf_tree a
   node_tree at (Add x y d) = add_tree (at x) (at y)
   node_tree at (Sub x y d) = sub_tree (at x) (at y)
@@ -77,16 +77,16 @@ module _ {A F : Type 0} (l : Leaves A F) where
 
   -- the trees of numbers, z for missing ones; for fitting nodes none is missing
   module _ (ns : List (SymbolicExpr A)) (wf : WellFormed l ns) (z : Tree A) where
-    abbrev there_at : ℕ → Tree A
+    abbrev pub there_at : ℕ → Tree A
     there_at i = unwrap_or (tree_of ns i) z
 
-    is_there : (i : ℕ) → i < length ns → tree_of ns i ≡ Some (there_at i)
+    pub is_there : (i : ℕ) → i < length ns → tree_of ns i ≡ Some (there_at i)
     is_there i b = let t = tree_there l.valid (tree_of ns i) (tree_of-valid l ns wf i b) in t.1 ∙ ap (λ (o : Option (Tree A)). Some (unwrap_or o z)) (sym t.1)
 
     both-there : (node : Tree A → Tree A → Tree A) (x y : ℕ) → x < length ns → y < length ns → both node (tree_of ns x) (tree_of ns y) ≡ Some (node (there_at x) (there_at y))
     both-there node x y b c = ap₂ (both node) (is_there x b) (is_there y c)
 
-    unfold-there : (n : SymbolicExpr A) → NodeFits l ns n → unfold_node (tree_of ns) n ≡ Some (node_tree there_at n)
+    pub unfold-there : (n : SymbolicExpr A) → NodeFits l ns n → unfold_node (tree_of ns) n ≡ Some (node_tree there_at n)
     unfold-there (Leaf a) h = refl
     unfold-there (Add x y d) h = both-there add_tree x y (h.below 0 x (omega arith)) (h.below 1 y (omega arith))
     unfold-there (Sub x y d) h = both-there sub_tree x y (h.below 0 x (omega arith)) (h.below 1 y (omega arith))
@@ -102,7 +102,7 @@ module _ {A F : Type 0} (l : Leaves A F) where
     same_two x y u v low b c e f =
         (one x u (low 0 x (omega arith)) (b 0 x (omega arith)) (c 0 u (omega arith)) e, one y v (low 1 y (omega arith)) (b 1 y (omega arith)) (c 1 v (omega arith)) f)
 
-    same_node : (n m : SymbolicExpr A) → OperandsBelow i n → NodeFits l ns n → NodeFits l ns m → node_tree at n ≡ node_tree at m → n ≡ m
+    pub same_node : (n m : SymbolicExpr A) → OperandsBelow i n → NodeFits l ns n → NodeFits l ns m → node_tree at n ≡ node_tree at m → n ≡ m
     same_node (Leaf a) (Leaf b) low h k e = cc
     same_node (Add x y d) (Add u v f) low h k e = let s = same_two x y u v low h.below k.below (cc) (cc) in cc (s.0, s.1, h.degree, k.degree)
     same_node (Sub x y d) (Sub u v f) low h k e = let s = same_two x y u v low h.below k.below (cc) (cc) in cc (s.0, s.1, h.degree, k.degree)

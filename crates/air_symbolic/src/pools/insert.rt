@@ -7,6 +7,7 @@ ghost use Rattle.air_symbolic.specs.Nodes.{unfold_node, tree_of, NodeFits, Opera
 ghost use Rattle.air_symbolic.specs.Numbering.{IsNowhere, IsAt};
 ghost use Rattle.air_symbolic.specs.declared.pools.expr.SymbolicExpr.{SymbolicExpr};
 ghost use Rattle.air_symbolic.specs.Pools.{FitsBase, tree_at, term_at, Grown, HasTree, size};
+ghost use Rattle.air_symbolic.specs.Numbered.{Numbers};
 
 use crate::leaves::sym_leaf::SymLeaf;
 use crate::pools::expr::{ExprId, SymbolicExpr};
@@ -39,7 +40,8 @@ fn number_of<A: SymLeaf>(nodes: &NodeTable<A>, node: &SymbolicExpr<A>) -> Option
 }
 
 impl<A: SymLeaf> ExprPool<A> {
-    // The number of the equal node if there is one, else of a new node: the pool holds each expression only once.
+    // The number of the equal node if there is one, else of a new node, which is the pool's last: the pool holds each
+    // expression only once.
     pub(crate) fn insert(&mut self, node: SymbolicExpr<A>) -> Result<ExprId<A>, RingError>
         requires owed { FitsBase A.reads self.old }
         requires fits { NodeFits (A.reads self.old.base) self.old.nodes node }
@@ -47,6 +49,7 @@ impl<A: SymLeaf> ExprPool<A> {
         ensures grown { Grown A.grows A.reads self.old self.new }
         ensures made { IfOk result (HasTree self.new
             (unfold_node (tree_of self.old.nodes) node)) }
+        ensures numbered { IfOk result (Numbers self.old self.new) }
         ensures refused { IfErr result (λ e. e ≡ RingError.Memory) }
         ensures kept { OnErr result (self.new ≡ self.old) }
     {
@@ -66,6 +69,7 @@ impl<A: SymLeaf> ExprPool<A> {
         ensures same_base { self.new.base ≡ self.old.base }
         ensures grown { Grown A.grows A.reads self.old self.new }
         ensures made { IfOk result (HasTree self.new (Some (leaf_tree a))) }
+        ensures numbered { IfOk result (Numbers self.old self.new) }
         ensures refused { IfErr result (λ e. e ≡ RingError.Memory) }
         ensures kept { OnErr result (self.new ≡ self.old) }
     {
@@ -80,6 +84,7 @@ impl<A: SymLeaf> ExprPool<A> {
         ensures same_base { self.new.base ≡ self.old.base }
         ensures grown { Grown A.grows A.reads self.old self.new }
         ensures made { IfOk result (HasTree self.new (Some (leaf_tree a))) }
+        ensures numbered { IfOk result (Numbers self.old self.new) }
         ensures refused { IfErr result (λ e. e ≡ RingError.Memory) }
         ensures kept { OnErr result (self.new ≡ self.old) }
     {
@@ -100,6 +105,7 @@ impl<A: SymLeaf> ExprPool<A> {
         ensures grown { Grown A.grows A.reads self.old self.new }
         ensures made { IfOk result (HasTree self.new
             (both add_tree (tree_at self.old x) (tree_at self.old y))) }
+        ensures numbered { IfOk result (Numbers self.old self.new) }
         ensures refused { IfErr result (λ e. e ≡ RingError.Memory) }
         ensures kept { OnErr result (self.new ≡ self.old) }
     {
@@ -120,6 +126,7 @@ impl<A: SymLeaf> ExprPool<A> {
         ensures grown { Grown A.grows A.reads self.old self.new }
         ensures made { IfOk result (HasTree self.new
             (both sub_tree (tree_at self.old x) (tree_at self.old y))) }
+        ensures numbered { IfOk result (Numbers self.old self.new) }
         ensures refused { IfErr result (λ e. e ≡ RingError.Memory) }
         ensures kept { OnErr result (self.new ≡ self.old) }
     {
@@ -139,6 +146,7 @@ impl<A: SymLeaf> ExprPool<A> {
         ensures grown { Grown A.grows A.reads self.old self.new }
         ensures made { IfOk result (HasTree self.new
             (option_map neg_tree (tree_at self.old x))) }
+        ensures numbered { IfOk result (Numbers self.old self.new) }
         ensures refused { IfErr result (λ e. e ≡ RingError.Memory) }
         ensures kept { OnErr result (self.new ≡ self.old) }
     {
@@ -156,6 +164,7 @@ impl<A: SymLeaf> ExprPool<A> {
         ensures grown { Grown A.grows A.reads self.old self.new }
         ensures made { IfOk result (HasTree self.new
             (both mul_tree (tree_at self.old x) (tree_at self.old y))) }
+        ensures numbered { IfOk result (Numbers self.old self.new) }
         ensures overflow { (result ≡ Err RingError.DegreeOverflow)
             ↔ (2 ^ 64 ≤ degree_by cached_weight (term_at A.reads self.old x) + degree_by
             cached_weight (term_at A.reads self.old y)) }

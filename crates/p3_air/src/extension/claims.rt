@@ -1,106 +1,167 @@
 //! Claims of expressions over an extension.
+use crate::expressions::view::Expr;
 use crate::extension::expr::ExtExpr;
-use crate::extension::shared::ExtShared;
+use crate::extension::shared::ExtExpressions;
 use crate::handles::claims::Claims;
-use crate::handles::expr::Expr;
 use air_draft::{Claimed, ExtClaimed};
 use air_field::{ExtensionField, Field};
-use std::ops::Deref;
+use std::ops::{Deref, DerefMut};
 
-/// Where claims of either kind are made: under conditions and a label, if there are any. It may be copied and used again.
-/// All calls of [`Claims`] are there.
+/// Where claims of either kind are made: under conditions and a label, if there are any. It may be used for several claims; a
+/// further condition or label takes it. All calls of [`Claims`] are there.
 ///
 /// A claim over the extension under conditions is asserted times their lifted factors: `when(a).when(b)` and a claim that
 /// x is zero assert that (x b) a is zero.
-#[derive(Clone, Copy)]
-pub struct ExtClaims<'a, F: Field, EF: ExtensionField<F>> {
-    pub(crate) shared: &'a ExtShared<F, EF>,
-    pub(crate) claims: Claims<'a, F>,
+#[derive(Drop)]
+pub struct ExtClaims<'c, 'a, F: Field, EF: ExtensionField<F>> {
+    pub(crate) claims: Claims<'c, 'a, F>,
+    pub(crate) expressions: &'a ExtExpressions<F, EF>,
 }
 
-impl<'a, F: Field, EF: ExtensionField<F>> Deref for ExtClaims<'a, F, EF> {
-    type Target = Claims<'a, F>;
+impl<'c, 'a, F: Field, EF: ExtensionField<F>> Deref for ExtClaims<'c, 'a, F, EF> {
+    type Target = Claims<'c, 'a, F>;
 
-    fn deref(&self) -> &Claims<'a, F> {
+    fn deref(&self) -> &Claims<'c, 'a, F> {
         &self.claims
     }
 }
 
-impl<'a, F: Field, EF: ExtensionField<F>> ExtClaims<'a, F, EF> {
+impl<'c, 'a, F: Field, EF: ExtensionField<F>> DerefMut for ExtClaims<'c, 'a, F, EF> {
+    fn deref_mut(&mut self) -> &mut Claims<'c, 'a, F> {
+        &mut self.claims
+    }
+}
+
+impl<'c, 'a, F: Field, EF: ExtensionField<F>> ExtClaims<'c, 'a, F, EF> {
     // Writes a claim over the extension down.
-    fn claim(self, claimed: ExtClaimed) {
-        self.claims.claim(Claimed::Extension(claimed));
+    fn claim_ext(&mut self, claimed: ExtClaimed) {
+        let (condition, label) = (self.claims.condition, self.claims.label);
+        self.claims
+            .c
+            .claim(Claimed::Extension(claimed), condition, label);
     }
 
-    // The number of an expression, which must be one of the same draft.
-    fn own(self, x: ExtExpr<'a, F, EF>) -> usize {
-        self.shared.own(x.shared, x.number)
-    }
-
-    // The same place, with other conditions or another label.
-    fn with(self, claims: Claims<'a, F>) -> ExtClaims<'a, F, EF> {
-        let ExtClaims { shared, .. } = self;
-        ExtClaims { shared, claims }
+    // The number of an expression, which must be one of the same expressions.
+    fn own(&self, x: ExtExpr<'a, F, EF>) -> usize {
+        self.expressions.own(x.expressions, x.number)
     }
 
     /// Claims that `x` is zero.
-    pub fn assert_zero_ext(self, x: ExtExpr<'a, F, EF>) {
+    pub fn assert_zero_ext(&mut self, x: ExtExpr<'a, F, EF>) {
         let x = self.own(x);
-        self.claim(ExtClaimed::Zero(x));
+        self.claim_ext(ExtClaimed::Zero(x));
     }
 
     /// Claims that `x` is one.
-    pub fn assert_one_ext(self, x: ExtExpr<'a, F, EF>) {
+    pub fn assert_one_ext(&mut self, x: ExtExpr<'a, F, EF>) {
         let x = self.own(x);
-        self.claim(ExtClaimed::One(x));
+        self.claim_ext(ExtClaimed::One(x));
     }
 
     /// Claims that both are equal.
-    pub fn assert_eq_ext(self, x: ExtExpr<'a, F, EF>, y: ExtExpr<'a, F, EF>) {
+    pub fn assert_eq_ext(&mut self, x: ExtExpr<'a, F, EF>, y: ExtExpr<'a, F, EF>) {
         let x = self.own(x);
         let y = self.own(y);
-        self.claim(ExtClaimed::Equal(x, y));
+        self.claim_ext(ExtClaimed::Equal(x, y));
     }
 
     /// Claims that each is zero, the i-th under the label `label::[i]` where there is a label.
-    pub fn assert_zeros_ext(self, xs: &[ExtExpr<'a, F, EF>]) {
+    pub fn assert_zeros_ext(&mut self, xs: &[ExtExpr<'a, F, EF>]) {
         for (i, x) in xs.iter().enumerate() {
-            self.at(i).assert_zero_ext(*x);
+            let x = self.own(*x);
+            self.claims
+                .claim_at(i, Claimed::Extension(ExtClaimed::Zero(x)));
         }
     }
 
     /// Where the condition isn't zero.
-    pub fn when(self, condition: Expr<'a, F>) -> ExtClaims<'a, F, EF> {
-        self.with(self.claims.when(condition))
+    pub fn when(self, condition: Expr) -> ExtClaims<'c, 'a, F, EF> {
+        let ExtClaims {
+            claims,
+            expressions,
+        } = self;
+        let claims = claims.when(condition);
+        ExtClaims {
+            claims,
+            expressions,
+        }
     }
 
     /// Where both differ.
-    pub fn when_ne(self, x: Expr<'a, F>, y: Expr<'a, F>) -> ExtClaims<'a, F, EF> {
-        self.with(self.claims.when_ne(x, y))
+    pub fn when_ne(self, x: Expr, y: Expr) -> ExtClaims<'c, 'a, F, EF> {
+        let ExtClaims {
+            claims,
+            expressions,
+        } = self;
+        let claims = claims.when_ne(x, y);
+        ExtClaims {
+            claims,
+            expressions,
+        }
     }
 
     /// On the first row.
-    pub fn when_first_row(self) -> ExtClaims<'a, F, EF> {
-        self.with(self.claims.when_first_row())
+    pub fn when_first_row(self) -> ExtClaims<'c, 'a, F, EF> {
+        let ExtClaims {
+            claims,
+            expressions,
+        } = self;
+        let claims = claims.when_first_row();
+        ExtClaims {
+            claims,
+            expressions,
+        }
     }
 
     /// On the last row.
-    pub fn when_last_row(self) -> ExtClaims<'a, F, EF> {
-        self.with(self.claims.when_last_row())
+    pub fn when_last_row(self) -> ExtClaims<'c, 'a, F, EF> {
+        let ExtClaims {
+            claims,
+            expressions,
+        } = self;
+        let claims = claims.when_last_row();
+        ExtClaims {
+            claims,
+            expressions,
+        }
     }
 
     /// On all rows but the last.
-    pub fn when_transition(self) -> ExtClaims<'a, F, EF> {
-        self.with(self.claims.when_transition())
+    pub fn when_transition(self) -> ExtClaims<'c, 'a, F, EF> {
+        let ExtClaims {
+            claims,
+            expressions,
+        } = self;
+        let claims = claims.when_transition();
+        ExtClaims {
+            claims,
+            expressions,
+        }
     }
 
     /// Under a label. Under a label that is there already, it is `outer::label`. An empty label is none.
-    pub fn named(self, label: &str) -> ExtClaims<'a, F, EF> {
-        self.with(self.claims.named(label))
+    pub fn named(self, label: &str) -> ExtClaims<'c, 'a, F, EF> {
+        let ExtClaims {
+            claims,
+            expressions,
+        } = self;
+        let claims = claims.named(label);
+        ExtClaims {
+            claims,
+            expressions,
+        }
     }
 
     /// Under the label `label::[index]`, where there is a label; without one nothing changes.
-    pub fn at(self, index: usize) -> ExtClaims<'a, F, EF> {
-        self.with(self.claims.at(index))
+    pub fn at(self, index: usize) -> ExtClaims<'c, 'a, F, EF> {
+        let ExtClaims {
+            claims,
+            expressions,
+        } = self;
+        let claims = claims.at(index);
+        ExtClaims {
+            claims,
+            expressions,
+        }
     }
 }

@@ -1,50 +1,50 @@
 //! Expressions over an extension.
-use crate::extension::shared::ExtShared;
-use crate::handles::expr::Expr;
+use crate::expressions::view::Expr;
+use crate::extension::shared::ExtExpressions;
 use air_draft::ExtStep;
 use air_field::{ExtensionField, Field};
 
-/// An expression over the extension of some [`ExtConstraints`](crate::ExtConstraints): a handle, which may be copied. The
+/// An expression over the extension of some [`ExtExpressions`](crate::ExtExpressions): a handle, which may be copied. The
 /// operators `+`, `-` and `*` join such expressions, base expressions and whole numbers.
 ///
-/// Nothing is refused while it is written. An expression of other constraints is refused in the end
+/// Nothing is refused while it is written. An expression of others is refused in the end
 /// (`AirError::ForeignExpression`).
 #[derive(Clone, Copy)]
 pub struct ExtExpr<'a, F: Field, EF: ExtensionField<F>> {
-    pub(crate) shared: &'a ExtShared<F, EF>,
+    pub(crate) expressions: &'a ExtExpressions<F, EF>,
     pub(crate) number: usize,
 }
 
 impl<'a, F: Field, EF: ExtensionField<F>> ExtExpr<'a, F, EF> {
     /// The number of another expression, which must be one of the same draft.
     pub(crate) fn own(self, other: ExtExpr<'a, F, EF>) -> usize {
-        self.shared.own(other.shared, other.number)
+        self.expressions.own(other.expressions, other.number)
     }
 
     /// The expression of a step.
     pub(crate) fn step(self, step: ExtStep<F, EF>) -> ExtExpr<'a, F, EF> {
-        let shared = self.shared;
+        let expressions = self.expressions;
         ExtExpr {
-            shared,
-            number: shared.step(step),
+            expressions,
+            number: expressions.write(step),
         }
     }
 
     /// A base expression over the extension, beside this one.
-    pub(crate) fn lifted(self, x: Expr<'a, F>) -> ExtExpr<'a, F, EF> {
-        let shared = self.shared;
+    pub(crate) fn lifted(self, x: Expr<'a>) -> ExtExpr<'a, F, EF> {
+        let expressions = self.expressions;
         ExtExpr {
-            shared,
-            number: shared.lift(x),
+            expressions,
+            number: expressions.write_lifted(x),
         }
     }
 
     /// A whole number, beside this expression.
     pub(crate) fn of_number(self, n: u64) -> ExtExpr<'a, F, EF> {
-        let shared = self.shared;
+        let expressions = self.expressions;
         ExtExpr {
-            shared,
-            number: shared.number(n),
+            expressions,
+            number: expressions.write_number(n),
         }
     }
 

@@ -1,6 +1,6 @@
 //! Operators on expressions over an extension, with base expressions and whole numbers on either side.
+use crate::expressions::view::{Expr, Node};
 use crate::extension::expr::ExtExpr;
-use crate::handles::expr::Expr;
 use air_draft::ExtStep;
 use air_field::{ExtensionField, Field};
 use std::ops::{Add, AddAssign, Mul, MulAssign, Neg, Sub, SubAssign};
@@ -14,16 +14,16 @@ impl<'a, F: Field, EF: ExtensionField<F>> Add<ExtExpr<'a, F, EF>> for ExtExpr<'a
     }
 }
 
-impl<'a, F: Field, EF: ExtensionField<F>> Add<Expr<'a, F>> for ExtExpr<'a, F, EF> {
+impl<'a, F: Field, EF: ExtensionField<F>> Add<&'a Node> for ExtExpr<'a, F, EF> {
     type Output = ExtExpr<'a, F, EF>;
 
-    fn add(self, x: Expr<'a, F>) -> ExtExpr<'a, F, EF> {
+    fn add(self, x: Expr<'a>) -> ExtExpr<'a, F, EF> {
         let y = self.lifted(x);
         self.step(ExtStep::Add(self.number, y.number))
     }
 }
 
-impl<'a, F: Field, EF: ExtensionField<F>> Add<ExtExpr<'a, F, EF>> for Expr<'a, F> {
+impl<'a, F: Field, EF: ExtensionField<F>> Add<ExtExpr<'a, F, EF>> for &'a Node {
     type Output = ExtExpr<'a, F, EF>;
 
     fn add(self, y: ExtExpr<'a, F, EF>) -> ExtExpr<'a, F, EF> {
@@ -57,8 +57,8 @@ impl<'a, F: Field, EF: ExtensionField<F>> AddAssign<ExtExpr<'a, F, EF>> for ExtE
     }
 }
 
-impl<'a, F: Field, EF: ExtensionField<F>> AddAssign<Expr<'a, F>> for ExtExpr<'a, F, EF> {
-    fn add_assign(&mut self, x: Expr<'a, F>) {
+impl<'a, F: Field, EF: ExtensionField<F>> AddAssign<&'a Node> for ExtExpr<'a, F, EF> {
+    fn add_assign(&mut self, x: Expr<'a>) {
         let sum = *self + x;
         self.number = sum.number;
     }
@@ -80,16 +80,16 @@ impl<'a, F: Field, EF: ExtensionField<F>> Sub<ExtExpr<'a, F, EF>> for ExtExpr<'a
     }
 }
 
-impl<'a, F: Field, EF: ExtensionField<F>> Sub<Expr<'a, F>> for ExtExpr<'a, F, EF> {
+impl<'a, F: Field, EF: ExtensionField<F>> Sub<&'a Node> for ExtExpr<'a, F, EF> {
     type Output = ExtExpr<'a, F, EF>;
 
-    fn sub(self, x: Expr<'a, F>) -> ExtExpr<'a, F, EF> {
+    fn sub(self, x: Expr<'a>) -> ExtExpr<'a, F, EF> {
         let y = self.lifted(x);
         self.step(ExtStep::Sub(self.number, y.number))
     }
 }
 
-impl<'a, F: Field, EF: ExtensionField<F>> Sub<ExtExpr<'a, F, EF>> for Expr<'a, F> {
+impl<'a, F: Field, EF: ExtensionField<F>> Sub<ExtExpr<'a, F, EF>> for &'a Node {
     type Output = ExtExpr<'a, F, EF>;
 
     fn sub(self, y: ExtExpr<'a, F, EF>) -> ExtExpr<'a, F, EF> {
@@ -123,8 +123,8 @@ impl<'a, F: Field, EF: ExtensionField<F>> SubAssign<ExtExpr<'a, F, EF>> for ExtE
     }
 }
 
-impl<'a, F: Field, EF: ExtensionField<F>> SubAssign<Expr<'a, F>> for ExtExpr<'a, F, EF> {
-    fn sub_assign(&mut self, x: Expr<'a, F>) {
+impl<'a, F: Field, EF: ExtensionField<F>> SubAssign<&'a Node> for ExtExpr<'a, F, EF> {
+    fn sub_assign(&mut self, x: Expr<'a>) {
         let difference = *self - x;
         self.number = difference.number;
     }
@@ -146,16 +146,16 @@ impl<'a, F: Field, EF: ExtensionField<F>> Mul<ExtExpr<'a, F, EF>> for ExtExpr<'a
     }
 }
 
-impl<'a, F: Field, EF: ExtensionField<F>> Mul<Expr<'a, F>> for ExtExpr<'a, F, EF> {
+impl<'a, F: Field, EF: ExtensionField<F>> Mul<&'a Node> for ExtExpr<'a, F, EF> {
     type Output = ExtExpr<'a, F, EF>;
 
-    fn mul(self, x: Expr<'a, F>) -> ExtExpr<'a, F, EF> {
+    fn mul(self, x: Expr<'a>) -> ExtExpr<'a, F, EF> {
         let y = self.lifted(x);
         self.step(ExtStep::Mul(self.number, y.number))
     }
 }
 
-impl<'a, F: Field, EF: ExtensionField<F>> Mul<ExtExpr<'a, F, EF>> for Expr<'a, F> {
+impl<'a, F: Field, EF: ExtensionField<F>> Mul<ExtExpr<'a, F, EF>> for &'a Node {
     type Output = ExtExpr<'a, F, EF>;
 
     fn mul(self, y: ExtExpr<'a, F, EF>) -> ExtExpr<'a, F, EF> {
@@ -189,8 +189,8 @@ impl<'a, F: Field, EF: ExtensionField<F>> MulAssign<ExtExpr<'a, F, EF>> for ExtE
     }
 }
 
-impl<'a, F: Field, EF: ExtensionField<F>> MulAssign<Expr<'a, F>> for ExtExpr<'a, F, EF> {
-    fn mul_assign(&mut self, x: Expr<'a, F>) {
+impl<'a, F: Field, EF: ExtensionField<F>> MulAssign<&'a Node> for ExtExpr<'a, F, EF> {
+    fn mul_assign(&mut self, x: Expr<'a>) {
         let product = *self * x;
         self.number = product.number;
     }

@@ -1,14 +1,13 @@
 //! Sums and xors of words of 32 bits. A word is two limbs of 16 bits, the lower one first.
-use crate::gadgets::bits::packed;
+use crate::expressions::view::Expr;
 use crate::handles::claims::Claims;
-use crate::handles::expr::Expr;
 use air_field::Field;
 
 /// A word of 32 bits: its lower and its upper 16 bits.
-pub type Word<'a, F> = [Expr<'a, F>; 2];
+pub type Word<'a> = [Expr<'a>; 2];
 
 // x (x + n), and with two carries x (x + n) (x + 2n).
-fn carries<'a, F: Field>(x: Expr<'a, F>, n: u64, two: bool) -> Expr<'a, F> {
+fn carries<'a>(x: Expr<'a>, n: u64, two: bool) -> Expr<'a> {
     let product = x * (x + n);
     if two {
         product * (x + n.wrapping_mul(2))
@@ -17,9 +16,9 @@ fn carries<'a, F: Field>(x: Expr<'a, F>, n: u64, two: bool) -> Expr<'a, F> {
     }
 }
 
-impl<'a, F: Field> Claims<'a, F> {
+impl<'c, 'a, F: Field> Claims<'c, 'a, F> {
     // Claims that a difference of words is zero modulo 2^32, with one carry or two.
-    fn assert_carried(self, low: Expr<'a, F>, high: Expr<'a, F>, two: bool) {
+    fn assert_carried(&mut self, low: Expr<'a>, high: Expr<'a>, two: bool) {
         let whole = low + high * 65536;
         self.assert_zero(carries(whole, 4294967296, two));
         self.assert_zero(carries(low, 65536, two));
@@ -31,7 +30,7 @@ impl<'a, F: Field> Claims<'a, F> {
     ///
     /// That limbs have 16 bits isn't claimed: check their ranges yourself. Then the claim is exact in a prime field of
     /// characteristic above 2^17.
-    pub fn assert_add2(self, a: Word<'a, F>, b: Word<'a, F>, c: Word<'a, F>) {
+    pub fn assert_add2(&mut self, a: Word<'a>, b: Word<'a>, c: Word<'a>) {
         let low = a[0] - b[0] - c[0];
         let high = a[1] - b[1] - c[1];
         self.assert_carried(low, high, false);
@@ -43,14 +42,14 @@ impl<'a, F: Field> Claims<'a, F> {
     ///
     /// That limbs have 16 bits isn't claimed: check their ranges yourself. Then the claim is exact in a prime field of
     /// characteristic above 3 · 2^16.
-    pub fn assert_add3(self, a: Word<'a, F>, b: Word<'a, F>, c: Word<'a, F>, d: Word<'a, F>) {
+    pub fn assert_add3(&mut self, a: Word<'a>, b: Word<'a>, c: Word<'a>, d: Word<'a>) {
         let low = a[0] - b[0] - c[0] - d[0];
         let high = a[1] - b[1] - c[1] - d[1];
         self.assert_carried(low, high, true);
     }
 
     // Claims that a limb packs the xors of sixteen pairs of bits.
-    fn assert_half(self, limb: Expr<'a, F>, b: &[Expr<'a, F>], c: &[Expr<'a, F>]) {
+    fn assert_half(&mut self, limb: Expr<'a>, b: &[Expr<'a>], c: &[Expr<'a>]) {
         let mut half = limb.of_number(0);
         for (b, c) in b.iter().zip(c).rev() {
             half = half.double() + b.xor(*c);
@@ -66,10 +65,10 @@ impl<'a, F: Field> Claims<'a, F> {
     /// That `b` is made of bits isn't claimed: claim it yourself. Then the claim is exact in a prime field of
     /// characteristic 2^16 and above.
     pub fn assert_xor_32_shift(
-        self,
-        a: Word<'a, F>,
-        b: &[Expr<'a, F>; 32],
-        c: &[Expr<'a, F>; 32],
+        &mut self,
+        a: Word<'a>,
+        b: &[Expr<'a>; 32],
+        c: &[Expr<'a>; 32],
         shift: usize,
     ) {
         self.assert_bools(c);

@@ -1,161 +1,250 @@
-//! Claims: what is to be zero, where, and under which label.
-use crate::handles::expr::Expr;
-use crate::handles::shared::Shared;
-use air_core::AirError;
-use air_draft::{Claim, Claimed, Step};
-use air_field::Field;
-use air_symbolic::BaseLeaf;
+//! Groups: where claims are made, under conditions and a label.
+ghost use Rattle.std.specs.Prelude.{◌≡◌};
+ghost use Rattle.air_core.specs.Texts.{element_text};
+ghost use Rattle.air_draft.specs.declared.claim.Claimed.TheVariants.{Zero, One, Bool, Equal};
+ghost use Rattle.air_draft.specs.declared.claim.Factor.TheVariants.{FirstRow, LastRow, Transition, Nonzero, Different};
+ghost use Rattle.p3_air.specs.HandleClaims.{ClaimsOf, ClaimsOfBoth, AddsCondition, ConditionOf, ConditionOfBoth, AddsLabel, AddsIndexLabel};
 
-/// Where claims are made: under conditions and a label, if there are any. It may be copied and used again.
+use crate::expressions::view::Expr;
+use crate::handles::constraints::Constraints;
+use air_core::AirError;
+use air_draft::{Claimed, Factor};
+use air_field::Field;
+
+/// Where claims are made: under conditions and a label, if there are any. It may be used for several claims; a further
+/// condition or label takes it. While it is used, the constraints are borrowed.
 ///
 /// A claim under conditions is asserted times their factors: `when(a).when(b).assert_zero(x)` asserts that a (b x) is
 /// zero.
-#[derive(Clone, Copy)]
-pub struct Claims<'a, F: Field> {
-    pub(crate) shared: &'a Shared<F>,
+pub struct Claims<'c, 'a, F: Field> {
+    pub(crate) c: &'c mut Constraints<'a, F>,
     pub(crate) condition: Option<usize>,
     pub(crate) label: Option<usize>,
 }
 
-impl<'a, F: Field> Claims<'a, F> {
-    /// Writes a claim down.
-    pub(crate) fn claim(self, claimed: Claimed) {
-        self.shared.claim(Claim {
-            claimed,
-            condition: self.condition,
-            label: self.label,
-        });
+impl<F: Field> Drop for Claims<'_, '_, F> {
+    fn drop(self)
+        ensures { self.exit.0.now ≡ self.entry.c.now }
+    {
+        let Claims {
+            c: _,
+            condition: _,
+            label: _,
+        } = self;
     }
+}
 
-    // The number of an expression, which must be one of the same draft.
-    fn own(self, x: Expr<'a, F>) -> usize {
-        self.shared.own(x.shared, x.number)
-    }
-
+impl<'c, 'a, F: Field> Claims<'c, 'a, F> {
     /// Claims that `x` is zero.
-    pub fn assert_zero(self, x: Expr<'a, F>) {
-        let x = self.own(x);
-        self.claim(Claimed::Zero(x));
+    pub fn assert_zero(&mut self, x: Expr)
+        ensures same { self.new.c.ghost_name ≡ self.old.c.ghost_name }
+        ensures place { (self.new.condition ≡ self.old.condition) × (self.new.label ≡ self.old.label) }
+        ensures claims { ClaimsOf Zero x.now self.old.condition self.old.label self.old.c.now
+            self.new.c.now }
+    {
+        self.c.zero(x, self.condition, self.label);
     }
 
     /// Claims that `x` is one.
-    pub fn assert_one(self, x: Expr<'a, F>) {
-        let x = self.own(x);
-        self.claim(Claimed::One(x));
+    pub fn assert_one(&mut self, x: Expr)
+        ensures same { self.new.c.ghost_name ≡ self.old.c.ghost_name }
+        ensures place { (self.new.condition ≡ self.old.condition) × (self.new.label ≡ self.old.label) }
+        ensures claims { ClaimsOf One x.now self.old.condition self.old.label self.old.c.now
+            self.new.c.now }
+    {
+        self.c.one(x, self.condition, self.label);
     }
 
     /// Claims that `x` is zero or one.
-    pub fn assert_bool(self, x: Expr<'a, F>) {
-        let x = self.own(x);
-        self.claim(Claimed::Bool(x));
+    pub fn assert_bool(&mut self, x: Expr)
+        ensures same { self.new.c.ghost_name ≡ self.old.c.ghost_name }
+        ensures place { (self.new.condition ≡ self.old.condition) × (self.new.label ≡ self.old.label) }
+        ensures claims { ClaimsOf Bool x.now self.old.condition self.old.label self.old.c.now
+            self.new.c.now }
+    {
+        self.c.bit(x, self.condition, self.label);
     }
 
     /// Claims that both are equal.
-    pub fn assert_eq(self, x: Expr<'a, F>, y: Expr<'a, F>) {
-        let x = self.own(x);
-        let y = self.own(y);
-        self.claim(Claimed::Equal(x, y));
+    pub fn assert_eq(&mut self, x: Expr, y: Expr)
+        ensures same { self.new.c.ghost_name ≡ self.old.c.ghost_name }
+        ensures place { (self.new.condition ≡ self.old.condition) × (self.new.label ≡ self.old.label) }
+        ensures claims { ClaimsOfBoth Equal x.now y.now self.old.condition self.old.label
+            self.old.c.now self.new.c.now }
+    {
+        self.c.equal(x, y, self.condition, self.label);
+    }
+
+    /// Writes a claim down, under the label of an index where there is a label.
+    pub(crate) fn claim_at(&mut self, i: usize, claimed: Claimed) {
+        let label = self.c.index_label(self.label, i);
+        self.c.claim(claimed, self.condition, label);
     }
 
     /// Claims that each is zero, the i-th under the label `label::[i]` where there is a label.
-    pub fn assert_zeros(self, xs: &[Expr<'a, F>]) {
+    pub fn assert_zeros(&mut self, xs: &[Expr]) {
         for (i, x) in xs.iter().enumerate() {
-            self.at(i).assert_zero(*x);
+            let label = self.c.index_label(self.label, i);
+            self.c.zero(*x, self.condition, label);
         }
     }
 
     /// Claims that each is zero or one, the i-th under the label `label::[i]` where there is a label.
-    pub fn assert_bools(self, xs: &[Expr<'a, F>]) {
+    pub fn assert_bools(&mut self, xs: &[Expr]) {
         for (i, x) in xs.iter().enumerate() {
-            self.at(i).assert_bool(*x);
+            let label = self.c.index_label(self.label, i);
+            self.c.bit(*x, self.condition, label);
         }
     }
 
     /// Claims that both lists are equal, place by place; the i-th claim has the label `label::[i]` where there is a
     /// label. Lists of two lengths are refused in the end (`Ragged`).
-    pub fn assert_eq_arrays(self, xs: &[Expr<'a, F>], ys: &[Expr<'a, F>]) {
+    pub fn assert_eq_arrays(&mut self, xs: &[Expr], ys: &[Expr]) {
         if xs.len() != ys.len() {
-            self.shared.fail(AirError::Ragged {
+            self.c.fail(AirError::Ragged {
                 len: ys.len(),
                 width: xs.len(),
             });
         }
         for (i, (x, y)) in xs.iter().zip(ys).enumerate() {
-            self.at(i).assert_eq(*x, *y);
-        }
-    }
-
-    // Where a factor isn't zero either.
-    fn under(self, factor: usize) -> Claims<'a, F> {
-        let Claims {
-            shared,
-            condition,
-            label,
-        } = self;
-        Claims {
-            shared,
-            condition: Some(shared.condition(condition, factor)),
-            label,
+            let label = self.c.index_label(self.label, i);
+            self.c.equal(*x, *y, self.condition, label);
         }
     }
 
     /// Where the condition isn't zero.
-    pub fn when(self, condition: Expr<'a, F>) -> Claims<'a, F> {
-        let factor = self.own(condition);
-        self.under(factor)
+    pub fn when(self, condition: Expr) -> Claims<'c, 'a, F>
+        ensures same { result.c.ghost_name ≡ self.entry.c.ghost_name }
+        ensures place { result.label ≡ self.entry.label }
+        ensures adds { ConditionOf Nonzero condition.now self.entry.condition result.condition self.entry.c.now
+            result.c.now }
+    {
+        let Claims {
+            c,
+            condition: outer,
+            label,
+        } = self;
+        let condition = c.nonzero(outer, condition);
+        Claims {
+            c,
+            condition,
+            label,
+        }
     }
 
     /// Where both differ.
-    pub fn when_ne(self, x: Expr<'a, F>, y: Expr<'a, F>) -> Claims<'a, F> {
-        let x = self.own(x);
-        let y = self.own(y);
-        let factor = self.shared.step(Step::Sub(x, y));
-        self.under(factor)
+    pub fn when_ne(self, x: Expr, y: Expr) -> Claims<'c, 'a, F>
+        ensures same { result.c.ghost_name ≡ self.entry.c.ghost_name }
+        ensures place { result.label ≡ self.entry.label }
+        ensures adds { ConditionOfBoth Different x.now y.now self.entry.condition result.condition
+            self.entry.c.now result.c.now }
+    {
+        let Claims {
+            c,
+            condition: outer,
+            label,
+        } = self;
+        let condition = c.different(outer, x, y);
+        Claims {
+            c,
+            condition,
+            label,
+        }
     }
 
     /// On the first row.
-    pub fn when_first_row(self) -> Claims<'a, F> {
-        let factor = self.shared.leaf(BaseLeaf::IsFirstRow);
-        self.under(factor)
+    pub fn when_first_row(self) -> Claims<'c, 'a, F>
+        ensures same { result.c.ghost_name ≡ self.entry.c.ghost_name }
+        ensures place { result.label ≡ self.entry.label }
+        ensures adds { AddsCondition FirstRow self.entry.condition result.condition self.entry.c.now result.c.now }
+    {
+        let Claims {
+            c,
+            condition: outer,
+            label,
+        } = self;
+        let condition = c.under(outer, Factor::FirstRow);
+        Claims {
+            c,
+            condition,
+            label,
+        }
     }
 
     /// On the last row.
-    pub fn when_last_row(self) -> Claims<'a, F> {
-        let factor = self.shared.leaf(BaseLeaf::IsLastRow);
-        self.under(factor)
+    pub fn when_last_row(self) -> Claims<'c, 'a, F>
+        ensures same { result.c.ghost_name ≡ self.entry.c.ghost_name }
+        ensures place { result.label ≡ self.entry.label }
+        ensures adds { AddsCondition LastRow self.entry.condition result.condition self.entry.c.now result.c.now }
+    {
+        let Claims {
+            c,
+            condition: outer,
+            label,
+        } = self;
+        let condition = c.under(outer, Factor::LastRow);
+        Claims {
+            c,
+            condition,
+            label,
+        }
     }
 
     /// On all rows but the last.
-    pub fn when_transition(self) -> Claims<'a, F> {
-        let factor = self.shared.leaf(BaseLeaf::IsTransition);
-        self.under(factor)
+    pub fn when_transition(self) -> Claims<'c, 'a, F>
+        ensures same { result.c.ghost_name ≡ self.entry.c.ghost_name }
+        ensures place { result.label ≡ self.entry.label }
+        ensures adds { AddsCondition Transition self.entry.condition result.condition self.entry.c.now result.c.now }
+    {
+        let Claims {
+            c,
+            condition: outer,
+            label,
+        } = self;
+        let condition = c.under(outer, Factor::Transition);
+        Claims {
+            c,
+            condition,
+            label,
+        }
     }
 
     /// Under a label. Under a label that is there already, it is `outer::label`. An empty label is none.
-    pub fn named(self, label: &str) -> Claims<'a, F> {
+    pub fn named(self, label: &str) -> Claims<'c, 'a, F>
+        ensures same { result.c.ghost_name ≡ self.entry.c.ghost_name }
+        ensures place { result.condition ≡ self.entry.condition }
+        ensures adds { AddsLabel label.now self.entry.label result.label self.entry.c.now result.c.now }
+    {
         let Claims {
-            shared,
+            c,
             condition,
             label: outer,
         } = self;
+        let label = c.label(outer, label);
         Claims {
-            shared,
+            c,
             condition,
-            label: Some(shared.label(outer, label)),
+            label,
         }
     }
 
     /// Under the label `label::[index]`, where there is a label; without one nothing changes.
-    pub fn at(self, index: usize) -> Claims<'a, F> {
+    pub fn at(self, index: usize) -> Claims<'c, 'a, F>
+        ensures same { result.c.ghost_name ≡ self.entry.c.ghost_name }
+        ensures place { result.condition ≡ self.entry.condition }
+        ensures adds { AddsIndexLabel (element_text index) self.entry.label result.label self.entry.c.now
+            result.c.now }
+    {
         let Claims {
-            shared,
+            c,
+            condition,
+            label: outer,
+        } = self;
+        let label = c.index_label(outer, index);
+        Claims {
+            c,
             condition,
             label,
-        } = self;
-        Claims {
-            shared,
-            condition,
-            label: label.map(|outer| shared.index_label(Some(outer), index)),
         }
     }
 }

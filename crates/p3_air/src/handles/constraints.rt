@@ -1,262 +1,279 @@
 //! Constraints in the making.
-ghost use Rattle.std.specs.Prelude.{◌≡◌};
+ghost use Rattle.std.specs.Prelude.{◌≡◌, ◌≢◌, ℕ, [], length, map, None, Some, IfOk, IfErr};
+ghost use Rattle.air_field.specs.Ring.{image};
+ghost use Rattle.air_draft.specs.DraftEntries.{AddsColumns, AddsPeriodic, AddsBoundary, WritesConstant};
+ghost use Rattle.air_draft.specs.declared.claim.Claimed.TheVariants.{Zero, One, Bool, Equal};
+ghost use Rattle.air_draft.specs.declared.claim.Factor.TheVariants.{FirstRow, LastRow, Transition, Nonzero, Different};
+ghost use Rattle.air_draft.specs.declared.step.Step.TheVariants.{Constant};
+ghost use Rattle.p3_air.specs.HandleSteps.{Writes};
+ghost use Rattle.p3_air.specs.HandleClaims.{ClaimsOf, ClaimsOfBoth, AddsCondition, ConditionOf, ConditionOfBoth, AddsLabel};
 
+use crate::expressions::columns::{Column, Columns};
+use crate::expressions::nodes::Expressions;
+use crate::expressions::view::Expr;
 use crate::handles::claims::Claims;
-use crate::handles::columns::{Column, Columns};
-use crate::handles::expr::Expr;
-use crate::handles::shared::Shared;
-use crate::handles::windows::{Table, Window, variable};
-use air_audit::FlatAir;
+use air_core::AirError;
 use air_core::boundary::{BoundaryEnd, BoundaryPublic};
-use air_core::{AirError, BaseEntry};
-use air_draft::Draft;
+use air_draft::{Draft, Factor};
 use air_field::{Field, RowMajorMatrix};
-use air_symbolic::BaseLeaf;
 use std::alloc::Global;
 
-/// Constraints in the making: it hands out expressions, takes claims of them, and makes the AIR in the end.
+/// Constraints in the making: it takes claims of expressions, and makes the AIR in the end.
 ///
 /// Nothing is refused while it is written: what goes wrong first is kept, and [`Constraints::into_air`] answers it.
 #[derive(Drop)]
-pub struct Constraints<F: Field> {
-    pub(crate) shared: Shared<F>,
+pub struct Constraints<'a, F: Field> {
+    pub(crate) expressions: &'a Expressions,
+    pub(crate) draft: Draft<F>,
 }
 
-impl<F: Field> Constraints<F> {
-    /// No constraints yet, of a main trace of `width` columns. ([`Constraints::column`] adds more.)
-    pub fn new(alloc: Global, width: usize) -> Self {
+impl<'a, F: Field> Constraints<'a, F> {
+    /// No constraints yet, of a main trace of `width` columns. ([`Constraints::column`] adds more.) What is claimed are
+    /// expressions of these.
+    pub fn new(alloc: Global, expressions: &'a Expressions, width: usize) -> Self
+        ensures expressions { result.expressions.now ≡ expressions.now }
+        ensures width { result.draft.width ≡ width }
+        ensures public_values { result.draft.num_public_values ≡ 0 }
+        ensures preprocessed { result.draft.preprocessed ≡ None }
+        ensures periodic { result.draft.periodic.items ≡ [] }
+        ensures boundary { result.draft.boundary.items ≡ [] }
+        ensures constants { result.draft.constants.items ≡ [] }
+        ensures conditions { result.draft.conditions.items ≡ [] }
+        ensures labels { result.draft.labels.items ≡ [] }
+        ensures claims { result.draft.claims.items ≡ [] }
+        ensures fault { result.draft.fault ≡ None }
+    {
         Constraints {
-            shared: Shared::new(Draft::new(alloc, width)),
-        }
-    }
-
-    // The same constraints, with the draft changed.
-    fn of(draft: Draft<F>) -> Self {
-        Constraints {
-            shared: Shared::new(draft),
+            expressions,
+            draft: Draft::new(alloc, width),
         }
     }
 
     /// With this number of public values.
-    pub fn with_public_values(self, count: usize) -> Self {
-        let mut draft = self.into_draft();
-        draft.num_public_values = count;
-        Constraints::of(draft)
+    pub fn with_public_values(self, count: usize) -> Self
+        ensures { result ≡ record self.entry { draft = record self.entry.draft { num_public_values = count } } }
+    {
+        let mut constraints = self;
+        constraints.draft.num_public_values = count;
+        constraints
     }
 
     /// With a preprocessed trace. Its height must be that of the main trace when it is audited.
-    pub fn with_preprocessed(self, table: RowMajorMatrix<F>) -> Self {
-        let mut draft = self.into_draft();
+    pub fn with_preprocessed(self, table: RowMajorMatrix<F>) -> Self
+        ensures { result ≡ record self.entry { draft = record self.entry.draft { preprocessed = Some table } } }
+    {
+        let Constraints {
+            expressions,
+            mut draft,
+        } = self;
         draft.preprocessed = Some(table);
-        Constraints::of(draft)
+        Constraints { expressions, draft }
     }
 
     /// With one more periodic column: the values of one period.
-    pub fn with_periodic(self, column: Vec<F>) -> Self {
-        let mut draft = self.into_draft();
-        draft.add_periodic(column);
-        Constraints::of(draft)
+    pub fn with_periodic(self, column: Vec<F>) -> Self
+        ensures expressions { result.expressions ≡ self.entry.expressions }
+        ensures added { AddsPeriodic (λ v. v ≡ column) self.entry.draft result.draft }
+    {
+        let mut constraints = self;
+        constraints.draft.add_periodic(column);
+        constraints
     }
 
     /// With one more periodic column, of whole numbers: the values of one period.
-    pub fn with_periodic_numbers(self, numbers: &[u64]) -> Self {
-        let mut draft = self.into_draft();
-        draft.add_periodic_numbers(numbers);
-        Constraints::of(draft)
+    pub fn with_periodic_numbers(self, numbers: &[u64]) -> Self
+        ensures expressions { result.expressions ≡ self.entry.expressions }
+        ensures added { AddsPeriodic (λ v. v.items ≡ map (image F.ring) numbers.now) self.entry.draft
+            result.draft }
+    {
+        let mut constraints = self;
+        constraints.draft.add_periodic_numbers(numbers);
+        constraints
     }
 
     /// With a boundary value: the cell of a column in the first or the last row holds a public value.
-    pub fn with_boundary(self, column: usize, end: BoundaryEnd, public_value: usize) -> Self {
-        let mut draft = self.into_draft();
-        draft.add_boundary(BoundaryPublic::new(column, end, public_value));
-        Constraints::of(draft)
+    pub fn with_boundary(self, column: usize, end: BoundaryEnd, public_value: usize) -> Self
+        ensures expressions { result.expressions ≡ self.entry.expressions }
+        ensures added { AddsBoundary
+            (record { column = column; end = end; public_value = public_value }) self.entry.draft
+            result.draft }
+    {
+        let mut constraints = self;
+        let cell = BoundaryPublic::new(column, end, public_value);
+        constraints.draft.add_boundary(cell);
+        constraints
     }
 
     /// Adds a column to the main trace.
-    pub fn column(&self) -> Column<'_, F> {
-        let shared = &self.shared;
-        Column {
-            shared,
-            index: shared.columns(1),
-        }
+    pub fn column(&mut self) -> Column<'a>
+        ensures column { (result.expressions.now ≡ self.old.expressions.now)
+            × (result.index ≡ self.old.draft.width) }
+        ensures same { self.new.expressions ≡ self.old.expressions }
+        ensures added { AddsColumns 1 self.old.draft self.new.draft }
+    {
+        let index = self.draft.columns(1);
+        Column::new(self.expressions, index)
     }
 
     /// Adds columns to the main trace, which lie side by side.
-    pub fn columns(&self, count: usize) -> Columns<'_, F>
-        ensures { result.count ≡ count }
+    pub fn columns(&mut self, count: usize) -> Columns<'a>
+        ensures columns { (result.expressions.now ≡ self.old.expressions.now)
+            × (result.first ≡ self.old.draft.width) × (result.count ≡ count) }
+        ensures same { self.new.expressions ≡ self.old.expressions }
+        ensures added { AddsColumns count self.old.draft self.new.draft }
     {
-        let shared = &self.shared;
-        Columns {
-            shared,
-            first: shared.columns(count),
-            count,
-        }
-    }
-
-    /// The main trace's current row and next.
-    pub fn main(&self) -> Window<'_, F> {
-        Window {
-            shared: &self.shared,
-            table: Table::Main,
-        }
-    }
-
-    /// The preprocessed trace's current row and next.
-    pub fn preprocessed(&self) -> Window<'_, F> {
-        Window {
-            shared: &self.shared,
-            table: Table::Preprocessed,
-        }
-    }
-
-    /// A column of the main trace's current row.
-    pub fn current(&self, index: usize) -> Expr<'_, F> {
-        self.main().current(index)
-    }
-
-    /// A column of the main trace's next row; after the last row comes the first.
-    pub fn next(&self, index: usize) -> Expr<'_, F> {
-        self.main().next(index)
-    }
-
-    /// A column of the preprocessed trace's current row.
-    pub fn preprocessed_current(&self, index: usize) -> Expr<'_, F> {
-        self.preprocessed().current(index)
-    }
-
-    /// A column of the preprocessed trace's next row.
-    pub fn preprocessed_next(&self, index: usize) -> Expr<'_, F> {
-        self.preprocessed().next(index)
-    }
-
-    /// A periodic column.
-    pub fn periodic(&self, index: usize) -> Expr<'_, F> {
-        variable(&self.shared, BaseEntry::Periodic, index)
-    }
-
-    /// A public value.
-    pub fn public(&self, index: usize) -> Expr<'_, F> {
-        variable(&self.shared, BaseEntry::Public, index)
-    }
-
-    // The expression of a leaf.
-    fn leaf(&self, leaf: BaseLeaf<F>) -> Expr<'_, F> {
-        let shared = &self.shared;
-        Expr {
-            shared,
-            number: shared.leaf(leaf),
-        }
-    }
-
-    /// One on the first row, zero elsewhere.
-    pub fn is_first_row(&self) -> Expr<'_, F> {
-        self.leaf(BaseLeaf::IsFirstRow)
-    }
-
-    /// One on the last row, zero elsewhere.
-    pub fn is_last_row(&self) -> Expr<'_, F> {
-        self.leaf(BaseLeaf::IsLastRow)
-    }
-
-    /// Zero on the last row, one elsewhere.
-    pub fn is_transition(&self) -> Expr<'_, F> {
-        self.leaf(BaseLeaf::IsTransition)
+        let first = self.draft.columns(count);
+        Columns::new(self.expressions, first, count)
     }
 
     /// A constant of the field.
-    pub fn constant(&self, c: F) -> Expr<'_, F> {
-        self.leaf(BaseLeaf::Constant(c))
+    pub fn constant(&mut self, c: F) -> Expr<'a>
+        ensures step { Writes self.old.expressions.now (Constant (length self.old.draft.constants.items))
+            result.now }
+        ensures same { self.new.expressions ≡ self.old.expressions }
+        ensures written { WritesConstant c self.old.draft self.new.draft }
+    {
+        let place = self.draft.constant(c);
+        self.expressions.constant_at(place)
     }
 
-    /// A whole number: one, added n times.
-    pub fn number(&self, n: u64) -> Expr<'_, F> {
-        self.constant(F::from_u64(n))
+    /// Claims that `x` is zero.
+    pub fn assert_zero(&mut self, x: Expr)
+        ensures { ClaimsOf Zero x.now None None self.old self.new }
+    {
+        self.zero(x, None, None);
+    }
+
+    /// Claims that `x` is one.
+    pub fn assert_one(&mut self, x: Expr)
+        ensures { ClaimsOf One x.now None None self.old self.new }
+    {
+        self.one(x, None, None);
+    }
+
+    /// Claims that `x` is zero or one.
+    pub fn assert_bool(&mut self, x: Expr)
+        ensures { ClaimsOf Bool x.now None None self.old self.new }
+    {
+        self.bit(x, None, None);
+    }
+
+    /// Claims that both are equal.
+    pub fn assert_eq(&mut self, x: Expr, y: Expr)
+        ensures { ClaimsOfBoth Equal x.now y.now None None self.old self.new }
+    {
+        self.equal(x, y, None, None);
+    }
+
+    /// Claims that each is zero.
+    pub fn assert_zeros(&mut self, xs: &[Expr]) {
+        self.everywhere().assert_zeros(xs);
+    }
+
+    /// Claims that each is zero or one.
+    pub fn assert_bools(&mut self, xs: &[Expr]) {
+        self.everywhere().assert_bools(xs);
+    }
+
+    /// Claims that both lists are equal, place by place. Lists of two lengths are refused in the end (`Ragged`).
+    pub fn assert_eq_arrays(&mut self, xs: &[Expr], ys: &[Expr]) {
+        self.everywhere().assert_eq_arrays(xs, ys);
     }
 
     /// Where claims hold on every row, without a label.
-    pub fn everywhere(&self) -> Claims<'_, F> {
+    pub fn everywhere(&mut self) -> Claims<'_, 'a, F>
+        ensures same { result.c.ghost_name ≡ self.entry.ghost_name }
+        ensures place { (result.condition ≡ None) × (result.label ≡ None) }
+        ensures adds { result.c.now ≡ self.old }
+    {
         Claims {
-            shared: &self.shared,
+            c: self,
             condition: None,
             label: None,
         }
     }
 
-    /// Claims that `x` is zero.
-    pub fn assert_zero<'a>(&'a self, x: Expr<'a, F>) {
-        self.everywhere().assert_zero(x);
-    }
-
-    /// Claims that `x` is one.
-    pub fn assert_one<'a>(&'a self, x: Expr<'a, F>) {
-        self.everywhere().assert_one(x);
-    }
-
-    /// Claims that `x` is zero or one.
-    pub fn assert_bool<'a>(&'a self, x: Expr<'a, F>) {
-        self.everywhere().assert_bool(x);
-    }
-
-    /// Claims that both are equal.
-    pub fn assert_eq<'a>(&'a self, x: Expr<'a, F>, y: Expr<'a, F>) {
-        self.everywhere().assert_eq(x, y);
-    }
-
-    /// Claims that each is zero.
-    pub fn assert_zeros<'a>(&'a self, xs: &[Expr<'a, F>]) {
-        self.everywhere().assert_zeros(xs);
-    }
-
-    /// Claims that each is zero or one.
-    pub fn assert_bools<'a>(&'a self, xs: &[Expr<'a, F>]) {
-        self.everywhere().assert_bools(xs);
-    }
-
-    /// Claims that both lists are equal, place by place. Lists of two lengths are refused in the end (`Ragged`).
-    pub fn assert_eq_arrays<'a>(&'a self, xs: &[Expr<'a, F>], ys: &[Expr<'a, F>]) {
-        self.everywhere().assert_eq_arrays(xs, ys);
-    }
-
     /// Where the condition isn't zero.
-    pub fn when<'a>(&'a self, condition: Expr<'a, F>) -> Claims<'a, F> {
-        self.everywhere().when(condition)
+    pub fn when(&mut self, condition: Expr) -> Claims<'_, 'a, F>
+        ensures same { result.c.ghost_name ≡ self.entry.ghost_name }
+        ensures place { result.label ≡ None }
+        ensures adds { ConditionOf Nonzero condition.now None result.condition self.old result.c.now }
+    {
+        let condition = self.nonzero(None, condition);
+        Claims {
+            c: self,
+            condition,
+            label: None,
+        }
     }
 
     /// Where both differ.
-    pub fn when_ne<'a>(&'a self, x: Expr<'a, F>, y: Expr<'a, F>) -> Claims<'a, F> {
-        self.everywhere().when_ne(x, y)
+    pub fn when_ne(&mut self, x: Expr, y: Expr) -> Claims<'_, 'a, F>
+        ensures same { result.c.ghost_name ≡ self.entry.ghost_name }
+        ensures place { result.label ≡ None }
+        ensures adds { ConditionOfBoth Different x.now y.now None result.condition self.old result.c.now }
+    {
+        let condition = self.different(None, x, y);
+        Claims {
+            c: self,
+            condition,
+            label: None,
+        }
     }
 
     /// On the first row.
-    pub fn when_first_row(&self) -> Claims<'_, F> {
-        self.everywhere().when_first_row()
+    pub fn when_first_row(&mut self) -> Claims<'_, 'a, F>
+        ensures same { result.c.ghost_name ≡ self.entry.ghost_name }
+        ensures place { result.label ≡ None }
+        ensures adds { AddsCondition FirstRow None result.condition self.old result.c.now }
+    {
+        let condition = self.under(None, Factor::FirstRow);
+        Claims {
+            c: self,
+            condition,
+            label: None,
+        }
     }
 
     /// On the last row.
-    pub fn when_last_row(&self) -> Claims<'_, F> {
-        self.everywhere().when_last_row()
+    pub fn when_last_row(&mut self) -> Claims<'_, 'a, F>
+        ensures same { result.c.ghost_name ≡ self.entry.ghost_name }
+        ensures place { result.label ≡ None }
+        ensures adds { AddsCondition LastRow None result.condition self.old result.c.now }
+    {
+        let condition = self.under(None, Factor::LastRow);
+        Claims {
+            c: self,
+            condition,
+            label: None,
+        }
     }
 
     /// On all rows but the last.
-    pub fn when_transition(&self) -> Claims<'_, F> {
-        self.everywhere().when_transition()
+    pub fn when_transition(&mut self) -> Claims<'_, 'a, F>
+        ensures same { result.c.ghost_name ≡ self.entry.ghost_name }
+        ensures place { result.label ≡ None }
+        ensures adds { AddsCondition Transition None result.condition self.old result.c.now }
+    {
+        let condition = self.under(None, Factor::Transition);
+        Claims {
+            c: self,
+            condition,
+            label: None,
+        }
     }
 
     /// Under a label.
-    pub fn named(&self, label: &str) -> Claims<'_, F> {
-        self.everywhere().named(label)
-    }
-
-    /// What was written down.
-    pub fn into_draft(self) -> Draft<F> {
-        let Constraints { shared } = self;
-        shared.into_draft()
-    }
-
-    /// The AIR that declares what was claimed, in order. It refuses what went wrong first while it was written: `Memory`,
-    /// an expression of other constraints (`ForeignExpression`), a degree past `usize` (`DegreeOverflow`). An entry that
-    /// isn't there is refused by the audit.
-    pub fn into_air(self) -> Result<FlatAir<F>, AirError> {
-        self.into_draft().into_air()
+    pub fn named(&mut self, label: &str) -> Claims<'_, 'a, F>
+        ensures same { result.c.ghost_name ≡ self.entry.ghost_name }
+        ensures place { result.condition ≡ None }
+        ensures adds { AddsLabel label.now None result.label self.old result.c.now }
+    {
+        let label = self.label(None, label);
+        Claims {
+            c: self,
+            condition: None,
+            label,
+        }
     }
 }

@@ -12,9 +12,9 @@ use Rattle.air_draft.specs.DraftTerms.{term_at, claimed_term, under_conditions}
 use Rattle.air_draft.specs.Making.{TermOverflows}
 use Rattle.air_draft.specs.ExtDraftTerms.{ext_claimed_term, under_lifted, claimed_assertion, asserted_term}
 use Rattle.air_draft.specs.ExtRoots.{RootMeans}
-use Rattle.air_draft.proofs.NumberedTerms.{base_mean_still}
+use Rattle.air_draft.proofs.NumberedTerms.{base_mean_still, seen_from_base}
 use Rattle.air_draft.proofs.Refusing.{refuses_more, Part-lifted}
-use Rattle.air_draft.proofs.RootsMean.{base_asserted, seen_from_base}
+use Rattle.air_draft.proofs.RootsMean.{base_asserted}
 use Rattle.air_draft.proofs.ext_roots.make_any_root.Goals as goal
 
 pub make_ext_under-requires-clause-base_in : goal.make_ext_under-requires-clause-base_in
@@ -50,12 +50,12 @@ returns-in_err-root-in-Extension-clause-refused g c =
 pub returns-in_ok-root-in-Extension-clause-made : goal.returns-in_ok-root-in-Extension-clause-made
 returns-in_ok-root-in-Extension-clause-made g c bs ts base all =
     let then = base_mean_still g.F.Field.ring g.EF.ExtensionField.basis _ _ c.args.base.now bs c.make_ext_claimed.ensures.extended base in
-    rw c.in-Extension.is (c.in_ok-root-in-Extension.ensures.made.1 bs _ then (c.in_ok-x-in-Extension.ensures.made.1 ts all))
+    rw c.in-Extension.is (c.in_ok-root-in-Extension.ensures.made bs _ then (c.in_ok-x-in-Extension.ensures.made.1 ts all))
 
 pub returns-in_err-root-in_default-clause-grown : goal.returns-in_err-root-in_default-clause-grown
 returns-in_err-root-in_default-clause-grown g c =
-    base_lent_from g.met.EF.ExtensionField.laws c.args.pool.now c.base_mut.result.now c.make_root.new.ring c.base_mut.ensures.value
-    c.make_root.ensures.extended
+    base_lent_from g.met.EF.ExtensionField.laws c.args.pool.now c.base_mut.result.now c.make_root.new.pool c.base_mut.ensures.value
+    c.make_root.ensures.grown
 
 pub returns-in_err-root-in_default-clause-refused : goal.returns-in_err-root-in_default-clause-refused
 returns-in_err-root-in_default-clause-refused g c =
@@ -75,8 +75,8 @@ returns-in_err-root-in_default-clause-refused g c =
 
 pub returns-in_ok-root-in_default-clause-grown : goal.returns-in_ok-root-in_default-clause-grown
 returns-in_ok-root-in_default-clause-grown g c =
-    base_lent_from g.met.EF.ExtensionField.laws c.args.pool.now c.base_mut.result.now c.make_root.new.ring c.base_mut.ensures.value
-    c.make_root.ensures.extended
+    base_lent_from g.met.EF.ExtensionField.laws c.args.pool.now c.base_mut.result.now c.make_root.new.pool c.base_mut.ensures.value
+    c.make_root.ensures.grown
 
 pub returns-in_ok-root-in_default-clause-made : goal.returns-in_ok-root-in_default-clause-made
 returns-in_ok-root-in_default-clause-made g c bs ts base all =
@@ -85,5 +85,5 @@ returns-in_ok-root-in_default-clause-made g c bs ts base all =
     let seen = subst (λ u. AllZip (PoolMeans base_reads ring u) c.args.base.now bs) (sym c.base_mut.ensures.value)
     (seen_from_base ring basis c.args.pool.now c.args.base.now bs base) in
     let is = base_asserted g.F.Field.ONE (term_at bs) (term_at ts) c.args.factors.now c.args.claimed c.in_default.not-Extension in
-    subst (RootMeans ring basis (on_base c.args.pool.now c.make_root.new.ring) (root.Base c.in_ok-root-in_default.root)) (sym is)
+    subst (RootMeans ring basis (on_base c.args.pool.now c.make_root.new.pool) (root.Base c.in_ok-root-in_default.root)) (sym is)
     (c.in_ok-root-in_default.ensures.made.1 bs seen)

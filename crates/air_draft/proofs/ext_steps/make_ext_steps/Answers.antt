@@ -38,7 +38,7 @@ returns-in_err-id-clause-refused g c =
     let term = ext_step_term basis (term_at bs) in
     let refused = c.in_err-id.ensures.refused bs (ext_step_terms basis (term_at bs) (take i steps)) (rw c.deref.ensures.value (h.made bs all)) in
     refuses_more (max b m) (max b n) _ (max-le_max b m n (omega (arith, long, h.long, c.loop-step-test.true)))
-    (overflows_step term steps i c.step-item.result c.loop-step-test.true c.step-item.is) refused)
+    (overflows_step term steps i c.step-item.result c.step-item.result c.loop-step-test.true c.step-item.is) refused)
 
 pub returns-in_err-id-clause-grown : goal.returns-in_err-id-clause-grown
 returns-in_err-id-clause-grown g c =
@@ -73,6 +73,6 @@ loop-step-preserved g c =
           let said = c.in_ok-id.ensures.made bs terms then (rw c.deref.ensures.value (h.made bs all)) in
           let kept = all_mean_still laws c.loop-step.pool after made terms grown (h.made bs all) in
           subst (AllZip still (made ++ id ∷ []))
-          (sym (terms_after-more term steps i c.step-item.result c.loop-step-test.true c.step-item.is))
+          (sym (terms_after-more term steps i c.step-item.result c.step-item.result c.loop-step-test.true c.step-item.is))
           (all_zipped_more still made terms id (term (term_at terms) c.step-item.result) kept said);
     }

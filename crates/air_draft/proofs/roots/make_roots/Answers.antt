@@ -30,12 +30,12 @@ loop-claim-preserved g c =
     let laws = pool_laws ring base_reads base_grows tt (base_leaf_laws ring) in
     let first = c.args.pool.now in
     let before = c.loop-claim.pool in
-    let after = c.make_root.new.ring in
+    let after = c.make_root.new.pool in
     let h = c.loop-claim.invariant in
     let i = c.loop-claim.claim-index in
     let roots = c.loop-claim.roots.items in
     let none : Claim = record { claimed = Zero 0; condition = None; label = None } in
-    let grown = c.make_root.ensures.extended in
+    let grown = c.make_root.ensures.grown in
     rw c.in_ok-push.ensures.items record {
       grown = laws.joined _ _ _ h.grown grown;
       pool = grown.pool h.pool;

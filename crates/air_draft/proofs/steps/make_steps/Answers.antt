@@ -1,4 +1,4 @@
-use Rattle.std.proofs.Common.{◌+◌, ◌++◌, ◌∷◌, [], ◌∙◌, ap, length, subst, sym, take, arith}
+use Rattle.std.proofs.Common.{◌≤◌, ◌+◌, ◌++◌, ◌∷◌, [], ◌∙◌, ap, get_or, length, max, refl, subst, sym, take, arith}
 use Rattle.std.proofs.lemmas.List.{length_push}
 use Rattle.std.proofs.lemmas.Result.{err_from_is_err_and}
 use Rattle.std.proofs.lemmas.Slice.Zip.{all_zipped_more}
@@ -7,9 +7,12 @@ use Rattle.air_symbolic.specs.BaseLeaves.{base_reads, base_grows}
 use Rattle.air_symbolic.specs.Pools.{PoolHas, PoolMeans}
 use Rattle.air_symbolic.specs.laws.BaseLeaves.{base_leaf_laws}
 use Rattle.air_symbolic.specs.laws.Pools.{pool_laws}
-use Rattle.air_draft.specs.DraftTerms.{term_at, step_term, step_terms}
+use Rattle.air_core.specs.declared.variables.entry.BaseEntry.TheVariants.{Preprocessed}
+use Rattle.air_draft.specs.declared.step.Step.{Step}
+use Rattle.air_draft.specs.declared.step.Step.TheVariants.{Variable}
+use Rattle.air_draft.specs.DraftTerms.{term_at, step_term, terms_after}
 use Rattle.air_draft.proofs.NumberedTerms.{All-beside, all_mean_still, terms_after-more}
-use Rattle.air_draft.proofs.Refusing.{refuses_more, overflows_step}
+use Rattle.air_draft.proofs.Refusing.{refuses_more, max_left-le_max, overflows_step}
 use Rattle.air_draft.proofs.steps.make_steps.Goals as goal
 
 pub make_step-requires-clause-all_in : goal.make_step-requires-clause-all_in
@@ -23,11 +26,18 @@ returns-in_err-id-clause-refused g c =
     let p = err_from_is_err_and c.from_residual-in_err-id.result c.from_residual-in_err-id.ensures.1 in
     let steps = c.args.steps.now in
     let i = c.loop-step.step-index in
-    let refused = c.in_err-id.ensures.refused (step_terms (take i steps)) (rw c.deref.ensures.value c.loop-step.invariant.made) in
+    let none : Step = Variable (Preprocessed 0) 0 in
+    let constants = c.args.constants.now in
+    let term = step_term g.F.Field.ring g.F.Field.ONE constants in
+    let refused = c.in_err-id.ensures.refused (terms_after term [] (take i steps)) (rw c.deref.ensures.value c.loop-step.invariant.made) in
     let long = ap length c.deref.ensures.value in
+    let m = length c.deref.result.now in
+    let n = length steps in
+    let k = length constants in
+    let before : m ≤ n = omega (arith, long, c.loop-step.invariant.long, c.loop-step-test.true) in
     rw (p.1, p.2)
-    (refuses_more (length c.deref.result.now) (length steps) _ (omega (arith, long, c.loop-step.invariant.long, c.loop-step-test.true))
-    (overflows_step step_term steps i c.step-item.result c.loop-step-test.true c.step-item.is) refused)
+    (refuses_more (max m k) (max n k) _ (max_left-le_max m n k before)
+    (overflows_step term steps i none (get_or steps i none) c.loop-step-test.true refl) refused)
 
 pub returns-in_err-push-clause-grown : goal.returns-in_err-push-clause-grown
 returns-in_err-push-clause-grown g c =
@@ -41,11 +51,13 @@ loop-step-preserved g c =
     let grown = c.make_step.ensures.grown in
     let h = c.loop-step.invariant in
     let i = c.loop-step.step-index in
+    let none : Step = Variable (Preprocessed 0) 0 in
     let steps = c.args.steps.now in
     let made = c.loop-step.made.items in
     let still = PoolMeans base_reads ring c.make_step.new.pool in
     let id = c.in_ok-id.id in
-    let terms = step_terms (take i steps) in
+    let term = step_term ring g.F.Field.ONE c.args.constants.now in
+    let terms = terms_after term [] (take i steps) in
     let said = c.in_ok-id.ensures.made.1 terms (rw c.deref.ensures.value h.made) in
     let laws = pool_laws ring base_reads base_grows tt (base_leaf_laws ring) in
     let kept = all_mean_still laws c.loop-step.pool c.make_step.new.pool made terms grown h.made in
@@ -54,6 +66,6 @@ loop-step-preserved g c =
       pool = grown.pool h.pool;
       long = length_push made id ∙ ap (λ n. n + 1) h.long;
       made = subst (AllZip still (made ++ id ∷ []))
-          (sym (terms_after-more step_term steps i c.step-item.result c.loop-step-test.true c.step-item.is))
-          (all_zipped_more still made terms id (step_term (term_at terms) c.step-item.result) kept said);
+          (sym (terms_after-more term steps i none (get_or steps i none) c.loop-step-test.true refl))
+          (all_zipped_more still made terms id (term (term_at terms) (get_or steps i none)) kept said);
     }

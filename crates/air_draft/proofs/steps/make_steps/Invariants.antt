@@ -11,5 +11,5 @@ invariant-loop-step g l = record {
   grown : Grown base_grows base_reads l.initial.pool l.pool;
   pool : IsPool base_reads l.pool;
   long : length l.made.items ≡ l.step-index;
-  made : AllZip (PoolMeans base_reads g.F.Field.ring l.pool) l.made.items (step_terms (take l.step-index l.steps));
+  made : AllZip (PoolMeans base_reads g.F.Field.ring l.pool) l.made.items (step_terms g.F.Field.ring g.F.Field.ONE l.constants (take l.step-index l.steps));
 }

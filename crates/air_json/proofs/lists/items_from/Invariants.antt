@@ -1,7 +1,7 @@
-use Rattle.std.proofs.Common.{map, take}
+use Rattle.std.proofs.Common.{length, map, take}
 use Rattle.serde_json.specs.View.{view}
 use Rattle.air_symbolic.specs.Pools.{Grown}
-use Rattle.air_json.specs.ListReaders.{HasRead}
+use Rattle.air_json.specs.ListReaders.{HasRead, IsNumbered}
 use Rattle.air_json.specs.Unshared.{seen_at}
 use Rattle.air_json.proofs.lists.items_from.Given as goal
 
@@ -12,4 +12,5 @@ invariant-loop-item g l =
     record {
       grown : Grown g.A.SymLeaf.grows g.A.SymLeaf.reads l.initial.pool l.pool;
       read : HasRead A.kind (seen_at A.seen) l.pool (map view (take l.item-index l.items)) l.list;
+      numbered : IsNumbered (length l.initial.pool.nodes) l.list (length l.pool.nodes);
     }

@@ -13,6 +13,7 @@ returns-in_ok-insert_neg-in-Neg g c =
     record {
       grown = c.in_ok-insert_neg-in-Neg.ensures.grown;
       here = made.here;
+      numbered = c.in_ok-insert_neg-in-Neg.ensures.numbered;
       read =
           rw (c.insert_neg.ensures.same_base, made.tree)
           (ap (λ o. Ok o)

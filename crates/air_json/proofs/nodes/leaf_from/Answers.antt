@@ -41,5 +41,6 @@ returns g c =
           (lent_grown _ g.A.SymLeaf.reads g.A.SymLeaf.grows _ g.met.A.SymLeaf.leaf_laws c.args.pool.now c.base_mut.result.now c.leaf_from_value.new.base c.base_mut.ensures.value c.leaf_from_value.ensures.grown)
           c.leaf.ensures.grown;
       here = c.in_ok-leaf-2.ensures.made.here;
+      numbered = c.in_ok-leaf-2.ensures.numbered;
       read = leaf_seen A.seen c.leaf_from_value.new.base c.leaf.new.self.base c.in_ok-leaf.leaf (tree_at c.leaf.new.self c.in_ok-leaf-2.field-0) (A.kind.leaf_at c.args.at (view c.args.contents.now)) c.leaf.ensures.same_base c.in_ok-leaf-2.ensures.made.tree c.in_ok-leaf.ensures.read;
     }

@@ -32,5 +32,6 @@ returns g c =
     record {
       grown = c.insert_operation.ensures.grown;
       here = c.insert_operation.ensures.here;
+      numbered = c.insert_operation.ensures.numbered;
       read = subst (Gives (seen_at A.seen c.insert_operation.new.pool) c.insert_operation.result) same c.insert_operation.ensures.read;
     }

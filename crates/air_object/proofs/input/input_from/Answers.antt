@@ -1,9 +1,12 @@
-use Rattle.std.proofs.Common.{Ok, Err, inr}
+use Rattle.std.proofs.Common.{Result, Ok, Err, IfOk, subst, inr}
 use Rattle.std.proofs.lemmas.Result.{err_from_is_err_and}
 use Rattle.serde_json.specs.View.{view}
+use Rattle.air_field.specs.declared.errors.MatrixError.{MatrixError}
+use Rattle.air_object.specs.Parts.{TakesPool}
 use Rattle.air_object.specs.Seen.{seen_made}
+use Rattle.air_object.specs.declared.input.FlatInput.{FlatInput}
 use Rattle.air_object.proofs.InputLaws.{member_fault, parts_spell}
-use Rattle.air_object.proofs.PartLemmas.{parts_give}
+use Rattle.air_object.proofs.PartLemmas.{parts_give, roots_given}
 use Rattle.air_object.proofs.input.input_from.Goals as goal
 
 pub returns-in_err-made-clause-refused : goal.returns-in_err-made-clause-refused
@@ -26,4 +29,10 @@ returns-in_err-input-clause-refused g c =
 
 pub returns-clause-read : goal.returns-clause-read
 returns-clause-read g c d parts =
-    parts_spell g.F.PrimeField64.residues d (view c.args.value.now) c.args.main c.args.constraints parts c.in_ok-made.made (Ok c.in_ok-input.input) c.in_ok-made.ensures.read c.in_ok-input.was
+    let m = g.F.PrimeField64.residues in
+    let input = c.in_ok-input.input in
+    let taken = subst (λ (r : Result (FlatInput _) MatrixError). IfOk r (λ i. TakesPool c.args.constraints i.constraints)) c.in_ok-input.was c.in_ok-made.ensures.taken in
+    record {
+      members = parts_spell m d (view c.args.value.now) c.args.main c.args.constraints parts c.in_ok-made.made (Ok input) c.in_ok-made.ensures.read c.in_ok-input.was;
+      roots = roots_given m d (view c.args.value.now) c.args.main c.args.constraints parts input.constraints taken;
+    }

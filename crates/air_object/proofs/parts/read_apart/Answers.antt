@@ -16,7 +16,7 @@ members-init g c = (
   no_members,
   refl,
   omega arith,
-  subst (λ es. AreMembersOf g.F.PrimeField64.residues no_members (members_view es) c.missing_elements-main.result c.missing_constraints-constraints.result) (sym c.new-rest.ensures.empty) (none_of_members g.F.PrimeField64.residues c.missing_elements-main.result c.missing_constraints-constraints.result c.missing_elements-main.ensures c.missing_constraints-constraints.ensures),
+  subst (λ es. AreMembersOf g.F.PrimeField64.residues no_members (members_view es) c.missing_elements-main.result c.missing_constraints-constraints.result) (sym c.new-rest.ensures.empty) (none_of_members g.F.PrimeField64.residues c.missing_elements-main.result c.missing_constraints-constraints.result c.missing_elements-main.ensures.given c.missing_constraints-constraints.ensures.given),
 )
 
 pub returns-in_err-name-clause-err : goal.returns-in_err-name-clause-err

@@ -13,7 +13,7 @@ pub items-init : goal.items-init
 unfolding each_from
 items-init g c =
     let all = converted of_items (items (value c.args.depth) (length c.args.reader.now) c.args.reader.now) in
-    (length c.args.reader.now, omega arith, [], none_before all, omega arith, c.no_elements-elements.ensures)
+    (length c.args.reader.now, omega arith, [], none_before all, omega arith, c.no_elements-elements.ensures.given)
 
 pub returns-in_err-elements-clause-err : goal.returns-in_err-elements-clause-err
 returns-in_err-elements-clause-err g c refused =

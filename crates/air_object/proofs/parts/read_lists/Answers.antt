@@ -1,10 +1,11 @@
-use Rattle.std.proofs.Common.{◌≡◌, [], length, Some, None, ap, ◌∙◌, arith}
+use Rattle.std.proofs.Common.{◌≡◌, [], ◌∷◌, ◌++◌, length, Some, None, sym, ap, subst, ◌∙◌, arith}
 use Rattle.json.specs.Json.{parse_map, after_end_array, items, value}
 use Rattle.serde_json.specs.Read.{of_items, converted}
 use Rattle.serde_json.specs.View.{items_of}
+use Rattle.air_object.specs.Gained.{GainsLists}
 use Rattle.air_object.specs.Parts.{AreGiven}
 use Rattle.air_object.specs.Readers.{each_from, tree}
-use Rattle.air_object.proofs.PartLemmas.{one_item_more}
+use Rattle.air_object.proofs.PartLemmas.{one_item_on, each_from_push}
 use Rattle.air_object.proofs.TokenLemmas.{data_before, data_before-no_items, item_refused, items_over, none_before}
 use Rattle.air_object.proofs.parts.read_lists.Goals as goal
 
@@ -12,7 +13,7 @@ pub items-init : goal.items-init
 unfolding each_from
 items-init g c =
     let all = converted of_items (items (value c.args.depth) (length c.args.reader.now) c.args.reader.now) in
-    (length c.args.reader.now, omega arith, [], none_before all, omega arith, c.no_constraints-constraints.ensures)
+    (length c.args.reader.now, omega arith, [], none_before all, omega arith, c.no_constraints-constraints.ensures.given)
 
 pub read_list-requires : goal.read_list-requires
 read_list-requires g c = c.items.invariant.5.inside
@@ -31,7 +32,11 @@ items-preserved g c =
     let l = c.items in
     let going : (after_end_array l.reader ≡ None) × (c.take_end_array.new.self ≡ l.reader) = grind arith in
     let done = c.in_ok-constraints.ensures in
-    one_item_more (tree g.F.PrimeField64.residues) (λ given. AreGiven given l.constraints) (λ given. AreGiven given c.in_ok-constraints.constraints) p _ (length c.args.reader.now) l.invariant.0 l.reader c.read_list.new.reader l.invariant.2 done.ok.0 l.invariant.1 l.invariant.3 l.invariant.4 l.invariant.5 going.0 (rw (← going.1) done.ok.1) (rw (← going.1) done.shorter) done.ok.2
+    let m = g.F.PrimeField64.residues in
+    let d = done.ok.0 in
+    one_item_on (λ es. AreGiven (each_from (tree m) [] (items_of es)) (GainsLists m (items_of es) []) l.constraints) (λ es. AreGiven (each_from (tree m) [] (items_of es)) (GainsLists m (items_of es) []) c.in_ok-constraints.constraints)
+    p _ (length c.args.reader.now) l.invariant.0 l.reader c.read_list.new.reader l.invariant.2 d l.invariant.1 l.invariant.3 l.invariant.4 l.invariant.5 going.0 (rw (← going.1) done.ok.1) (rw (← going.1) done.shorter)
+    (λ h. subst (λ r. AreGiven r (GainsLists m (items_of (l.invariant.2 ++ d ∷ [])) []) c.in_ok-constraints.constraints) (sym (each_from_push (tree m) [] l.invariant.2 d)) (done.ok.2 (each_from (tree m) [] (items_of l.invariant.2)) l.invariant.2 h))
 
 pub returns-clause-ok : goal.returns-clause-ok
 returns-clause-ok g c =

@@ -3,6 +3,7 @@ use Rattle.json.specs.Json.{items, value, parse_map}
 use Rattle.serde_json.specs.Data.{Data}
 use Rattle.serde_json.specs.Read.{of_items, converted}
 use Rattle.serde_json.specs.View.{items_of}
+use Rattle.air_object.specs.Gained.{GainsLists}
 use Rattle.air_object.specs.Parts.{AreGiven}
 use Rattle.air_object.specs.Readers.{each_from, tree}
 use Rattle.air_object.proofs.TokenLemmas.{data_before}
@@ -17,4 +18,4 @@ invariant-items g l =
     (n : ℕ) × (length l.reader ≤ n) × (ds : List Data)
     × (converted of_items (items (value l.depth) (length l.initial.reader) l.initial.reader) ≡ parse_map (data_before ds) (converted of_items (items (value l.depth) n l.reader)))
     × (length l.reader ≤ length l.initial.reader)
-    × AreGiven (each_from (tree g.F.PrimeField64.residues) [] (items_of ds)) l.constraints
+    × AreGiven (each_from (tree g.F.PrimeField64.residues) [] (items_of ds)) (GainsLists g.F.PrimeField64.residues (items_of ds) []) l.constraints

@@ -3,7 +3,7 @@ use Rattle.json.specs.Json.{items, value, parse_map}
 use Rattle.serde_json.specs.Data.{Data}
 use Rattle.serde_json.specs.Read.{of_items, converted}
 use Rattle.air_json.specs.BaseLeaves.{base_kind, base_seen}
-use Rattle.air_json.specs.ListReaders.{HasRead}
+use Rattle.air_json.specs.ListReaders.{HasRead, IsNumbered}
 use Rattle.air_json.specs.Unshared.{seen_at}
 use Rattle.air_object.proofs.TokenLemmas.{data_before}
 use Rattle.air_object.proofs.Trees.{GrownTo}
@@ -20,3 +20,4 @@ invariant-items g l =
     × (length l.reader ≤ length l.initial.reader)
     × GrownTo l.initial.pool l.pool
     × HasRead (base_kind g.F.PrimeField64.residues) (seen_at base_seen) l.pool ds l.list
+    × IsNumbered (length l.initial.pool.nodes) l.list (length l.pool.nodes)

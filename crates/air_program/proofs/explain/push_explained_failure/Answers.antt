@@ -1,11 +1,9 @@
-use Rattle.std.proofs.Common.{◌≡◌, ◌<◌, ◌++◌, List, ℕ, Some, length, get_or, All, string_bytes, arith, sym, ap, subst, ◌∙◌}
+use Rattle.std.proofs.Common.{◌≡◌, ◌<◌, ◌++◌, List, ℕ, Some, length, get_or, string_bytes, arith, sym, ap, subst, ◌∙◌}
 use Rattle.std.specs.Prelude.{slice_get}
 use Rattle.std.specs.Slice.{IsItemAt}
 use Rattle.air_symbolic.specs.Reach.{Marked}
 use Rattle.air_print.specs.Explained.{explained_lines}
-use Rattle.air_print.specs.Reading.{Reads}
 use Rattle.air_print.specs.Rows.{trace_of}
-use Rattle.air_print.specs.laws.Values.{reads_here}
 use Rattle.air_report.specs.FailureTexts.{seen_failure}
 use Rattle.air_print.specs.Lines.{lines_text}
 use Rattle.air_program.proofs.ExplainedLemmas.{item_there, item_past, item_has, root_explained, past_explained, cell_explained}
@@ -28,12 +26,6 @@ returns-then-failure-height-clause-pushes g c =
     (omega (arith, c.if-failure-height.true, c.height.ensures))
     c.in_ok-push_failure.ensures
 
-pub push_explained-requires-clause-reads : goal.push_explained-requires-clause-reads
-push_explained-requires-clause-reads g c =
-    let ns = c.args.air.now.pool.nodes in
-    subst (λ (xs : List ℕ). All (λ i. i < length ns) xs) (sym c.deref-3.ensures.value)
-    (reads_here ns c.in-Some.root.now c.in_ok-read.read.items c.in_ok-read.ensures)
-
 pub returns-clause-pushes : goal.returns-clause-pushes
 returns-clause-pushes g c =
     let m = g.F.PrimeField64.residues in
@@ -42,14 +34,14 @@ returns-clause-pushes g c =
     let ns = air.pool.nodes in
     let k = c.args.failure.now.constraint in
     let root = c.in-Some.root.now in
-    let read = c.deref-3.result.now in
+    let below = c.in_ok-push_root_below.ensures.pushes in
     let there : IsItemAt air.roots.items k (Some c.in-Some.root) =
     subst (λ (xs : List ℕ). IsItemAt xs k (Some c.in-Some.root)) c.deref.ensures.value c.in-Some.ensures.lookup in
-    root_explained m r g.met.F.PrimeField64.ring_is air.pool air.roots.items air.beside.cells.items (trace_of c.args.trace.now) c.args.names.now.1 (seen_failure c.args.failure.now) root c.args.marks.now c.in_ok-at.at read (string_bytes c.args.text.now) (string_bytes c.push_failure.new.text) (string_bytes c.push_explained.new.text)
+    root_explained m r g.met.F.PrimeField64.ring_is air.pool air.roots.items air.beside.cells.items (trace_of c.args.trace.now) c.args.names.now.1 (seen_failure c.args.failure.now) root c.args.marks.now c.in_ok-at.at below.0 (string_bytes c.args.text.now) (string_bytes c.push_failure.new.text) (string_bytes c.push_root_below.new.text)
     (item_there air.roots.items k c.in-Some.root there)
     c.requires.marks c.in_ok-at.ensures.known c.in_ok-at.ensures.row
     (item_has (λ i. i < length ns) air.roots.items k c.in-Some.root there air.roots_in.here)
     (item_has (λ i. Marked c.args.marks.now i) air.roots.items k c.in-Some.root there c.requires.roots)
-    (subst (λ (xs : List ℕ). Reads ns root xs) (sym c.deref-3.ensures.value) c.in_ok-read.ensures)
+    below.1
     c.in_ok-push_failure.ensures
-    (subst (λ (values : List _). string_bytes c.push_explained.new.text ≡ string_bytes c.push_failure.new.text ++ lines_text (explained_lines m air.pool c.args.names.now.1 (λ i. get_or values i r.zero) root read)) c.deref-2.ensures.value c.in_ok-push_explained.ensures)
+    (subst (λ (values : List _). string_bytes c.push_root_below.new.text ≡ string_bytes c.push_failure.new.text ++ lines_text (explained_lines m air.pool c.args.names.now.1 (λ i. get_or values i r.zero) root below.0)) c.deref-2.ensures.value below.2)

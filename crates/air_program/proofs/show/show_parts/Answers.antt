@@ -24,7 +24,7 @@ returns g c =
     record {
       ok = λ d h. inl (
         refl,
-        shows_given m c.args.parts (Ok l) c.in-Ok.ensures.read l refl c.in-Ok.ensures.pool c.in-Ok.ensures.roots text
+        shows_given m c.args.parts (Ok l) c.in-Ok.ensures.read l refl c.in-Ok.ensures.taken text
             (subst (λ (ls : List (String Global)). ShowsRoots m l.pool l.roots.items (map string_bytes ls) text) c.deref-2.ensures.value
             (subst (λ (rs : List ℕ). ShowsRoots m l.pool rs (map string_bytes c.deref-2.result.now) text) c.deref.ensures.value c.in_ok-text.ensures)) d h,
       );

@@ -12,7 +12,7 @@ new-requires g c =
     let made = c.in_ok-pool.field-0 in
     record {
       here = All-beside (PoolMeans base_reads g.F.Field.ring made.pool) (λ i. i < size made.pool) (λ i t m. m.here)
-          made.roots.items (claim_terms g.F.Field.ONE c.args.self) c.in_ok-pool.ensures.means;
+          made.roots.items (claim_terms g.F.Field.ring g.F.Field.ONE c.args.self) c.in_ok-pool.ensures.means;
     }
 
 pub returns-in_err-air-clause-refused : goal.returns-in_err-air-clause-refused
@@ -26,4 +26,4 @@ returns-clause-records g c =
     let labelled = c.with_labels.ensures in
     let air = c.in_ok-air.ensures in
     rw (labelled.pool, labelled.roots, air.pool, air.roots)
-    (records_terms g.F.Field.ring made.pool made.roots.items (claim_terms g.F.Field.ONE c.args.self) c.in_ok-pool.ensures.means)
+    (records_terms g.F.Field.ring made.pool made.roots.items (claim_terms g.F.Field.ring g.F.Field.ONE c.args.self) c.in_ok-pool.ensures.means)

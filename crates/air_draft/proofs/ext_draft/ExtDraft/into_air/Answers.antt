@@ -1,8 +1,8 @@
-use Rattle.std.proofs.Common.{length, max, inr, rules}
+use Rattle.std.proofs.Common.{inr, rules}
 use Rattle.std.proofs.lemmas.Result.{err_from_is_err_and}
 use Rattle.air_audit.specs.FlatExtAirs.{RootHere}
 use Rattle.air_draft.specs.ExtRoots.{RootMeans}
-use Rattle.air_draft.specs.ExtDrafts.{ext_declared_by, ExtDraftOverflows}
+use Rattle.air_draft.specs.ExtDrafts.{ext_declared_by, ExtDraftOverflows, ext_number_bound}
 use Rattle.air_draft.proofs.NumberedTerms.{All-beside}
 use Rattle.air_draft.proofs.Recording.{records_roots, root_here, flat_refused}
 use Rattle.air_draft.proofs.ext_draft.ExtDraft.into_air.Goals as goal
@@ -16,7 +16,7 @@ new-requires-clause-here g c =
     let basis = g.EF.ExtensionField.basis in
     let made = c.in_ok-pool.field-0 in
     All-beside (RootMeans ring basis made.pool) (RootHere made.pool) (root_here ring basis made.pool)
-    made.roots.items (ext_declared_by g.F.Field.ONE basis c.args.self) c.in_ok-pool.ensures.means
+    made.roots.items (ext_declared_by ring g.F.Field.ONE basis c.args.self) c.in_ok-pool.ensures.means
 
 pub returns-in_err-air-clause-refused : goal.returns-in_err-air-clause-refused
 returns-in_err-air-clause-refused g c =
@@ -24,11 +24,10 @@ returns-in_err-air-clause-refused g c =
     let d = c.args.self in
     let made = c.in_ok-pool.field-0 in
     let p = err_from_is_err_and c.from_residual-in_err-air.result c.from_residual-in_err-air.ensures.1 in
-    let n = max (length d.base.steps.items) (length d.steps.items) in
     rw (p.1, p.2)
     (inr (
       search rules,
-      flat_refused n (ExtDraftOverflows g.F.Field.ONE basis d) c.in_err-air.field-0.0
+      flat_refused (ext_number_bound d) (ExtDraftOverflows g.F.Field.ring g.F.Field.ONE basis d) c.in_err-air.field-0.0
           basis made.pool made.roots.items c.in_err-air.ensures.refused,
     ))
 
@@ -40,4 +39,4 @@ returns-clause-records g c =
     let air = c.in_ok-air.ensures in
     rw (labelled.pool, labelled.roots, air.pool, air.roots)
     (records_roots g.F.Field.ring extension.over g.met.EF.ExtensionField.over_laws extension.basis made.pool made.roots.items
-    (ext_declared_by g.F.Field.ONE extension.basis c.args.self) c.in_ok-pool.ensures.means)
+    (ext_declared_by g.F.Field.ring g.F.Field.ONE extension.basis c.args.self) c.in_ok-pool.ensures.means)

@@ -1,4 +1,4 @@
-use Rattle.std.proofs.Common.{◌≤◌, length, map, max, subst, arith}
+use Rattle.std.proofs.Common.{◌≤◌, length, map, max, arith}
 use Rattle.std.proofs.Math.Nat.{le-max_left, le-max_right, max-le}
 use Rattle.std.proofs.lemmas.Result.{err_from_is_err_and}
 use Rattle.std.proofs.lemmas.Slice.Zip.{AllZip-long}
@@ -8,11 +8,11 @@ use Rattle.air_symbolic.specs.Pools.{PoolHas, PoolMeans, on_base}
 use Rattle.air_symbolic.specs.laws.ExtPool.{ext_keeps_base, base_lent_from}
 use Rattle.air_draft.specs.DraftTerms.{term_at, step_term, step_terms}
 use Rattle.air_draft.specs.ExtDraftTerms.{ext_step_term, ext_step_terms, asserted_term}
-use Rattle.air_draft.specs.Making.{MakingRefuses, SomeOverflows}
+use Rattle.air_draft.specs.Making.{SomeOverflows}
+use Rattle.air_draft.specs.Drafts.{number_bound}
 use Rattle.air_draft.specs.ExtDrafts.{base_terms_of, ext_terms_of, ext_declared_by, ExtDraftOverflows}
-use Rattle.air_draft.proofs.NumberedTerms.{All-beside, base_mean_still, terms-length}
+use Rattle.air_draft.proofs.NumberedTerms.{All-beside, base_meant, base_mean_still, terms-length}
 use Rattle.air_draft.proofs.Refusing.{refuses_more, overflows_left, overflows_right}
-use Rattle.air_draft.proofs.RootsMean.{base_meant}
 use Rattle.air_draft.proofs.ext_draft.ExtDraft.make.Goals as goal
 
 pub make_ext_steps-requires-clause-base_in : goal.make_ext_steps-requires-clause-base_in
@@ -23,8 +23,8 @@ make_ext_steps-requires-clause-base_in g c =
     let lent = base_lent_from g.met.EF.ExtensionField.laws c.new-pool.result c.base_mut.result.now c.make_steps.new.pool
     c.base_mut.ensures.value c.make_steps.ensures.grown in
     let base = c.in_ok-base.base.items in
-    let terms = step_terms c.deref.result.now in
-    rw c.deref-2.ensures.value
+    let terms = step_terms ring g.F.Field.ONE c.deref.result.now c.deref-2.result.now in
+    rw c.deref-3.ensures.value
     (All-beside (BaseMeans ring basis p) (BaseHas basis p) (λ x t m. (ext_keeps_base ring basis).base_means_has p x t m) base terms
     (base_meant ring basis p base terms (lent.pool c.new-pool.ensures.pool) c.in_ok-base.ensures.made))
 
@@ -37,9 +37,9 @@ make_any_roots-requires-clause-base_in g c =
     let lent = base_lent_from g.met.EF.ExtensionField.laws c.new-pool.result c.base_mut.result.now c.make_steps.new.pool
     c.base_mut.ensures.value c.make_steps.ensures.grown in
     let base = c.in_ok-base.base.items in
-    let terms = step_terms c.deref.result.now in
+    let terms = step_terms ring g.F.Field.ONE c.deref.result.now c.deref-2.result.now in
     let meant = base_meant ring basis p base terms (lent.pool c.new-pool.ensures.pool) c.in_ok-base.ensures.made in
-    rw c.deref-4.ensures.value
+    rw c.deref-5.ensures.value
     (All-beside (BaseMeans ring basis q) (BaseHas basis q) (λ x t m. (ext_keeps_base ring basis).base_means_has q x t m) base terms
     (base_mean_still ring basis p q base terms c.make_ext_steps.ensures.grown meant))
 
@@ -52,26 +52,27 @@ make_any_roots-requires-clause-made_in g c =
     let lent = base_lent_from g.met.EF.ExtensionField.laws c.new-pool.result c.base_mut.result.now c.make_steps.new.pool
     c.base_mut.ensures.value c.make_steps.ensures.grown in
     let base = c.in_ok-base.base.items in
-    let terms = step_terms c.deref.result.now in
+    let terms = step_terms ring g.F.Field.ONE c.deref.result.now c.deref-2.result.now in
     let meant = base_meant ring basis p base terms (lent.pool c.new-pool.ensures.pool) c.in_ok-base.ensures.made in
-    rw c.deref-5.ensures.value
+    rw c.deref-6.ensures.value
     (All-beside (PoolMeans (ext_reads basis) ring q) (PoolHas (ext_reads basis) q) (λ x t m. record { pool = m.pool; here = m.here })
-    c.in_ok-made.made.items (ext_step_terms basis (term_at terms) c.deref-3.result.now)
-    (c.in_ok-made.ensures.made terms (rw c.deref-2.ensures.value meant)))
+    c.in_ok-made.made.items (ext_step_terms basis (term_at terms) c.deref-4.result.now)
+    (c.in_ok-made.ensures.made terms (rw c.deref-3.ensures.value meant)))
 
 pub returns-in_err-base-clause-refused : goal.returns-in_err-base-clause-refused
 returns-in_err-base-clause-refused g c =
     let one = g.F.Field.ONE in
+    let ring = g.F.Field.ring in
     let basis = g.EF.ExtensionField.basis in
     let d = c.args.self.now in
     let e = c.in_err-base.field-0.0 in
-    let n = length d.base.steps.items in
+    let n = number_bound d.base in
     let m = length d.steps.items in
     let p = err_from_is_err_and c.from_residual.result c.from_residual.ensures.1 in
-    let refused = subst (λ v. MakingRefuses (length v) (SomeOverflows (step_terms v)) e) c.deref.ensures.value c.in_err-base.ensures.refused in
+    let refused = rw (c.deref.ensures.value, c.deref-2.ensures.value) at c.in_err-base.ensures.refused in
     rw (p.1, p.2)
-    (refuses_more {p = SomeOverflows (base_terms_of d)} {q = ExtDraftOverflows one basis d} n (max n m) e (le-max_left n m)
-    (overflows_left (base_terms_of d) _) refused)
+    (refuses_more {p = SomeOverflows (base_terms_of ring one d)} {q = ExtDraftOverflows ring one basis d} n (max n m) e (le-max_left n m)
+    (overflows_left (base_terms_of ring one d) _) refused)
 
 pub returns-in_err-made-clause-refused : goal.returns-in_err-made-clause-refused
 returns-in_err-made-clause-refused g c =
@@ -80,24 +81,25 @@ returns-in_err-made-clause-refused g c =
     let basis = g.EF.ExtensionField.basis in
     let d = c.args.self.now in
     let e = c.in_err-made.field-0.0 in
-    let n = length d.base.steps.items in
+    let n = number_bound d.base in
     let m = length d.steps.items in
     let q = on_base c.new-pool.result c.make_steps.new.pool in
     let lent = base_lent_from g.met.EF.ExtensionField.laws c.new-pool.result c.base_mut.result.now c.make_steps.new.pool
     c.base_mut.ensures.value c.make_steps.ensures.grown in
     let base = c.in_ok-base.base.items in
-    let terms = base_terms_of d in
-    let means = rw c.deref.ensures.value at c.in_ok-base.ensures.made in
+    let terms = base_terms_of ring one d in
+    let means = rw (c.deref.ensures.value, c.deref-2.ensures.value) at c.in_ok-base.ensures.made in
     let meant = base_meant ring basis q base terms (lent.pool c.new-pool.ensures.pool) means in
     let long = AllZip-long _ base terms means in
-    let count = terms-length step_term d.base.steps.items in
-    let within : max (length base) m ≤ max n m = max-le (omega (arith, long, count, le-max_left n m)) (le-max_right n m) in
+    let count = terms-length (step_term ring one d.base.constants.items) d.base.steps.items in
+    let below = le-max_left (length d.base.steps.items) (length d.base.constants.items) in
+    let within : max (length base) m ≤ max n m = max-le (omega (arith, long, count, below, le-max_left n m)) (le-max_right n m) in
     let p = err_from_is_err_and c.from_residual-in_err-made.result c.from_residual-in_err-made.ensures.1 in
-    let refused = rw (c.deref-2.ensures.value, c.deref-3.ensures.value) at (c.in_err-made.ensures.refused terms (rw c.deref-2.ensures.value meant)) in
-    let over = ext_terms_of basis d in
-    let claims = map asserted_term (ext_declared_by one basis d) in
+    let refused = rw (c.deref-3.ensures.value, c.deref-4.ensures.value) at (c.in_err-made.ensures.refused terms (rw c.deref-3.ensures.value meant)) in
+    let over = ext_terms_of ring one basis d in
+    let claims = map asserted_term (ext_declared_by ring one basis d) in
     rw (p.1, p.2)
-    (refuses_more {p = SomeOverflows over} {q = ExtDraftOverflows one basis d} (max (length base) m) (max n m) e within
+    (refuses_more {p = SomeOverflows over} {q = ExtDraftOverflows ring one basis d} (max (length base) m) (max n m) e within
     (λ h. overflows_right terms _ (overflows_left over claims h)) refused)
 
 pub returns-in_err-roots-clause-refused : goal.returns-in_err-roots-clause-refused
@@ -107,7 +109,7 @@ returns-in_err-roots-clause-refused g c =
     let basis = g.EF.ExtensionField.basis in
     let d = c.args.self.now in
     let e = c.in_err-roots.field-0.0 in
-    let n = length d.base.steps.items in
+    let n = number_bound d.base in
     let m = length d.steps.items in
     let first = on_base c.new-pool.result c.make_steps.new.pool in
     let q = c.make_ext_steps.new.pool in
@@ -115,24 +117,25 @@ returns-in_err-roots-clause-refused g c =
     c.base_mut.ensures.value c.make_steps.ensures.grown in
     let base = c.in_ok-base.base.items in
     let made = c.in_ok-made.made.items in
-    let terms = base_terms_of d in
-    let over = ext_terms_of basis d in
-    let means = rw c.deref.ensures.value at c.in_ok-base.ensures.made in
+    let terms = base_terms_of ring one d in
+    let over = ext_terms_of ring one basis d in
+    let means = rw (c.deref.ensures.value, c.deref-2.ensures.value) at c.in_ok-base.ensures.made in
     let meant = base_meant ring basis first base terms (lent.pool c.new-pool.ensures.pool) means in
     let then = base_mean_still ring basis first q base terms c.make_ext_steps.ensures.grown meant in
-    let over_means = rw c.deref-3.ensures.value at (c.in_ok-made.ensures.made terms (rw c.deref-2.ensures.value meant)) in
+    let over_means = rw c.deref-4.ensures.value at (c.in_ok-made.ensures.made terms (rw c.deref-3.ensures.value meant)) in
     let long = AllZip-long _ base terms means in
-    let count = terms-length step_term d.base.steps.items in
+    let count = terms-length (step_term ring one d.base.constants.items) d.base.steps.items in
+    let below = le-max_left (length d.base.steps.items) (length d.base.constants.items) in
     let over_long = AllZip-long _ made over over_means in
     let over_count = terms-length (ext_step_term basis (term_at terms)) d.steps.items in
     let within : max (length base) (length made) ≤ max n m =
-    max-le (omega (arith, long, count, le-max_left n m)) (omega (arith, over_long, over_count, le-max_right n m)) in
+    max-le (omega (arith, long, count, below, le-max_left n m)) (omega (arith, over_long, over_count, le-max_right n m)) in
     let p = err_from_is_err_and c.from_residual-in_err-roots.result c.from_residual-in_err-roots.ensures.1 in
-    let refused = rw (c.deref-4.ensures.value, c.deref-5.ensures.value, c.deref-6.ensures.value, c.deref-7.ensures.value)
-    at (c.in_err-roots.ensures.refused terms over (rw c.deref-4.ensures.value then) (rw c.deref-5.ensures.value over_means)) in
-    let claims = map asserted_term (ext_declared_by one basis d) in
+    let refused = rw (c.deref-5.ensures.value, c.deref-6.ensures.value, c.deref-7.ensures.value, c.deref-8.ensures.value)
+    at (c.in_err-roots.ensures.refused terms over (rw c.deref-5.ensures.value then) (rw c.deref-6.ensures.value over_means)) in
+    let claims = map asserted_term (ext_declared_by ring one basis d) in
     rw (p.1, p.2)
-    (refuses_more {p = SomeOverflows claims} {q = ExtDraftOverflows one basis d} (max (length base) (length made)) (max n m) e within
+    (refuses_more {p = SomeOverflows claims} {q = ExtDraftOverflows ring one basis d} (max (length base) (length made)) (max n m) e within
     (λ h. overflows_right terms _ (overflows_right over claims h)) refused)
 
 pub returns-clause-pool : goal.returns-clause-pool
@@ -143,6 +146,7 @@ returns-clause-pool g c =
 
 pub returns-clause-means : goal.returns-clause-means
 returns-clause-means g c =
+    let one = g.F.Field.ONE in
     let ring = g.F.Field.ring in
     let basis = g.EF.ExtensionField.basis in
     let d = c.args.self.now in
@@ -151,11 +155,11 @@ returns-clause-means g c =
     let lent = base_lent_from g.met.EF.ExtensionField.laws c.new-pool.result c.base_mut.result.now c.make_steps.new.pool
     c.base_mut.ensures.value c.make_steps.ensures.grown in
     let base = c.in_ok-base.base.items in
-    let terms = base_terms_of d in
-    let over = ext_terms_of basis d in
-    let means = rw c.deref.ensures.value at c.in_ok-base.ensures.made in
+    let terms = base_terms_of ring one d in
+    let over = ext_terms_of ring one basis d in
+    let means = rw (c.deref.ensures.value, c.deref-2.ensures.value) at c.in_ok-base.ensures.made in
     let meant = base_meant ring basis first base terms (lent.pool c.new-pool.ensures.pool) means in
     let then = base_mean_still ring basis first q base terms c.make_ext_steps.ensures.grown meant in
-    let over_means = rw c.deref-3.ensures.value at (c.in_ok-made.ensures.made terms (rw c.deref-2.ensures.value meant)) in
-    rw (c.deref-6.ensures.value, c.deref-7.ensures.value)
-    at (c.in_ok-roots.ensures.made terms over (rw c.deref-4.ensures.value then) (rw c.deref-5.ensures.value over_means))
+    let over_means = rw c.deref-4.ensures.value at (c.in_ok-made.ensures.made terms (rw c.deref-3.ensures.value meant)) in
+    rw (c.deref-7.ensures.value, c.deref-8.ensures.value)
+    at (c.in_ok-roots.ensures.made terms over (rw c.deref-5.ensures.value then) (rw c.deref-6.ensures.value over_means))

@@ -1,9 +1,9 @@
-use Rattle.std.proofs.Common.{Some, ap, sym, ◌∙◌}
+use Rattle.std.proofs.Common.{Some, refl, ap, sym, ◌∙◌, inl}
 use Rattle.std.proofs.lemmas.Option.{slice_get_within}
 use Rattle.air_symbolic.specs.Nodes.{tree_of}
 use Rattle.air_symbolic.specs.Numbering.{with_degree}
 use Rattle.air_symbolic.proofs.StatedDegrees.{unfold-with_degree, own-degree}
-use Rattle.air_symbolic.proofs.Tables.{pool-seen, IsNode-seen, Grown-push-seen, list-pushed, tree-pushed}
+use Rattle.air_symbolic.proofs.Tables.{pool-seen, IsNode-seen, Grown-push-seen, list-pushed, tree-pushed, number-pushed}
 use Rattle.air_symbolic.proofs.pools.pool.ExprPool.insert.Goals as goal
 
 pub returns-in-Some-clause-made : goal.returns-in-Some-clause-made
@@ -40,4 +40,18 @@ number_of-requires g c =
 pub returns-in_ok-number-in-None-clause-made : goal.returns-in_ok-number-in-None-clause-made
 returns-in_ok-number-in-None-clause-made g c =
     tree-pushed g.met.A.SymLeaf.leaf_laws c.args.self.now c.self.inside.base c.self.inside.nodes c.self.view_is
+    c.push.new.self c.args.node c.new-in-None.result c.in_ok-number-in-None.ensures.pushed (c.new-in-None.ensures ∙ c.in_ok-number-in-None.ensures.numbered)
+
+pub returns-in-Some-clause-numbered : goal.returns-in-Some-clause-numbered
+returns-in-Some-clause-numbered g c =
+    let p = c.args.self.now in
+    let table = c.self.inside in
+    let i = c.in-Some.number in
+    let node = with_degree c.args.node c.in-Some.ensures.0 in
+    let known = IsNode-seen (g.A.SymLeaf.reads p.base) p table.base table.nodes i node c.self.view_is (pool-seen g.A.SymLeaf.reads p _ _ c.self.view_is c.self.invariant c.requires.owed).nodes c.in-Some.ensures.1 in
+    rw c.new.ensures (inl (slice_get_within p.nodes i node known.node, refl))
+
+pub returns-in_ok-number-in-None-clause-numbered : goal.returns-in_ok-number-in-None-clause-numbered
+returns-in_ok-number-in-None-clause-numbered g c =
+    number-pushed c.args.self.now c.self.inside.base c.self.inside.nodes c.self.view_is
     c.push.new.self c.args.node c.new-in-None.result c.in_ok-number-in-None.ensures.pushed (c.new-in-None.ensures ∙ c.in_ok-number-in-None.ensures.numbered)

@@ -11,4 +11,4 @@ insert-requires-clause-fits g c = record {
 }
 
 pub returns : goal.returns
-returns g c = let e = c.insert.ensures in record { same_base = e.same_base; grown = e.grown; made = e.made; refused = e.refused; kept = e.kept }
+returns g c = let e = c.insert.ensures in record { same_base = e.same_base; grown = e.grown; made = e.made; numbered = e.numbered; refused = e.refused; kept = e.kept }

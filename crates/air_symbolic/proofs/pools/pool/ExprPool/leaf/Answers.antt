@@ -6,4 +6,4 @@ pub insert-requires : goal.insert-requires
 insert-requires g c = record { owed = c.requires.owed; fits = record { valid = c.requires.valid; below = All-nil _; degree = refl; in_range = g.met.A.SymLeaf.leaf_laws.in_range _ _ c.requires.valid } }
 
 pub returns : goal.returns
-returns g c = let e = c.insert.ensures in record { same_base = e.same_base; grown = e.grown; made = e.made; refused = e.refused; kept = e.kept }
+returns g c = let e = c.insert.ensures in record { same_base = e.same_base; grown = e.grown; made = e.made; numbered = e.numbered; refused = e.refused; kept = e.kept }

@@ -1,0 +1,60 @@
+-- A `&` to a node is one to its head, which is what a body begins with.
+use Rattle.std.proofs.Common.{◌≡◌, List, [], ◌∷◌, refl, ℕ, ◌+◌, arith}
+use Rattle.std.proofs.raw_atomic.Walks.{proved, leaves}
+use mir.Syntax.{named}
+use mir.Val.{Val, vptr}
+use base.Logic.{SProp, emp, ent, id⊢}
+use base.Fml.{Lft}
+use types.Kit.{‵, raw, ◌⊛◌, at_ret, ◌$◌, ◌∵◌, !, qed, by, move, keep, use0, use1, rewrite, done, split, fsplit, fjoin, feq_i}
+use types.Run.{enter, of_opd, addr, stop, first, blocks, exec, returns}
+use types.ByLocal.{alloc_all, pass_all, free_all, look_at, get, through, sets, sets_last, env}
+use contract.Running.{tables}
+use contract.Monad.{fact, fact_i}
+use denote.Exit.{yes}
+use denote.RattleType.{RattleType, owns}
+use denote.Memory.{shared_of}
+use denote.Opens.{hide, unhide}
+use denote.RawPtr.{block_ptr}
+use seplogic.Ra.Ura.{Ura}
+use types.Logic.{Logic, sem}
+use denote.Ref.{shr_vals, shr_Tells}
+use denote.Builtin.{RefOf}
+use denote.Signature.{types_at, plain}
+use denote.Steps.{nothing}
+use denote.Triple.Entry.{alive}
+use denote.Triple.Walked.{Stays, stay_dropped, walk_of, Goes-dropped}
+use Rattle.std.specs.Prelude.{Option, None, Some}
+use Rattle.p3_air.specs.HandleView.{head_of, linked}
+use Rattle.p3_air.specs.declared.expressions.nodes.Body.{Body}
+use Rattle.p3_air.specs.contracts.expressions.nodes.Head as H
+use Rattle.p3_air.specs.contracts.expressions.view.Node as Node
+use Rattle.p3_air.specs.contracts.expressions.view.Node.head.{ended, clauses}
+use Rattle.p3_air.specs.contracts.expressions.view.Node.head.Key.{name as #self}
+use Rattle.p3_air.proofs.expressions.view.Node.head.Statement.{statement}
+use Rattle.p3_air.proofs.expressions.view.Node.head.Code as code
+
+module _ {M : Type 1} {𝓤 : Ura M} (𝓛 : Logic 𝓤) where
+  begins : (l : Option Body) (b o : ℕ) (κ : Lft) → ent 𝓤 (sem 𝓛 (linked l (block_ptr b o) κ)) (sem 𝓛 (shared_of H.the_row (head_of l) b o κ))
+  begins None b o κ = id⊢ 𝓤 _
+  begins (Some d) b o κ = let e : o + 0 ≡ o = omega arith in
+      qed 𝓛 (‵ (linked (Some d) (block_ptr b o) κ) ∷ []) ∵ fsplit ! $ fsplit ! $ keep ! (0 ∷ []) $ rewrite ! 0 (λ (n : ℕ). ‵ (shared_of H.the_row d.head b n κ)) e refl $ done !
+
+pub head_spec : {M : Type 1} → statement M
+head_spec 𝓤 𝓛 𝓜 𝓡 wired =
+    let 𝓣 = tables 𝓤 𝓛.H 𝓜 𝓡 𝓡.env in let c = clauses 𝓛 𝓜.mem 𝓡.returns in let fn = code.function in
+    let self = RefOf (0 ∷ []) tt (plain (λ κs. Node.the_row)) (λ κs. tt) in
+    let hs : Stays ended.signature.params ended.kept = (stay_dropped self yes, tt) in
+    proved 𝓛 ended hs c 𝓜 𝓡 (Goes-dropped 𝓛 1 self yes (λ κs x f. refl), tt) #self fn (code.unfolded 𝓤 𝓛.H 𝓜 𝓡 wired)
+    (λ κs. (shr_vals, tt)) (λ κs. (shr_Tells (named 0) κs.0 Node.the_row, tt)) (λ κs qs bounds a gh are.
+    let b = a.0.ref_ptr.0 in let o = a.0.ref_ptr.1 in
+    let y : (walk_of 𝓛 ended hs c).Ghost = ((κs, qs, bounds, a, (vptr b o ∷ [], tt)), gh) in let Post : Val → SProp 𝓤 = (walk_of 𝓛 ended hs c).post y in
+    let Told : Type 0 = head_of a.0.now ≡ head_of a.0.now in
+    qed 𝓛 ((raw (alive 𝓛 ended.signature κs qs) ⊛ ‵ (owns (types_at ended.signature.params κs) a y.0.4)) ∷ raw ((c κs a).requires gh) ∷ []) ∵ split ! $ keep ! (1 ∷ 0 ∷ []) $
+    fsplit ! $ fsplit ! $ keep ! (1 ∷ 3 ∷ []) $ unhide ! $ use1 𝓛 (‵ (shared_of H.the_row (head_of a.0.now) b o κs.0)) (begins 𝓛 a.0.now b o κs.0) $ hide ! $ feq_i ! (List Val) (vptr b o ∷ []) (vptr b o ∷ []) refl $ fjoin ! $
+    use0 𝓛 (raw (fact 𝓤 Told)) (fact_i 𝓤 Told (emp 𝓤) refl) $ nothing ! $ nothing ! $ fjoin ! $
+    -- [what is left of the parameter; the fact; the reference; the tokens]
+    enter ! 𝓣.C 𝓣.Λ fn (vptr b o ∷ []) Post $ alloc_all ! (λ l. pass_all ! refl ((tt, tt), tt) $ let Ev = env fn.locals l in
+    sets ! (addr ! (through ! refl (stop !))) refl (tt, tt) $ sets ! (of_opd ! (get ! refl)) refl (tt, tt) $
+    first ! $ blocks ! $ sets_last ! (addr ! (through ! refl (stop !))) refl (tt, tt) $ exec ! 𝓣.C 𝓣.Λ Ev code.Mir.t-4 (at_ret Ev Post) $
+    sets ! (of_opd ! (get ! refl)) refl (tt, tt) $
+    returns ! (look_at ! 0 refl) $ free_all ! refl $ keep ! (3 ∷ 0 ∷ 2 ∷ 1 ∷ []) $ by ! (leaves 𝓛 ended hs c y (vptr b o) (record { ref_ptr = (b, o); now = head_of a.0.now }) (tt, tt) (tt, tt))))

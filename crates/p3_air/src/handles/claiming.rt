@@ -1,0 +1,127 @@
+//! What claims write into the draft of constraints.
+ghost use Rattle.std.specs.Prelude.{◌≡◌, IsSome};
+ghost use Rattle.air_core.specs.Texts.{element_text};
+ghost use Rattle.air_draft.specs.declared.claim.Claimed.TheVariants.{Zero, One, Bool, Equal};
+ghost use Rattle.air_draft.specs.declared.claim.Factor.TheVariants.{Nonzero, Different};
+ghost use Rattle.p3_air.specs.HandleClaims.{OnlyFault, AddsClaim, ClaimsOf, ClaimsOfBoth, AddsCondition, ConditionOf, ConditionOfBoth, AddsLabel, AddsIndexLabel};
+
+use crate::expressions::view::Expr;
+use crate::handles::constraints::Constraints;
+use air_core::AirError;
+use air_draft::{Claim, Claimed, Factor};
+use air_field::Field;
+
+impl<'a, F: Field> Constraints<'a, F> {
+    /// Notes a fault, if it is the first, also among those of the expressions.
+    pub(crate) fn fail(&mut self, error: AirError)
+        ensures noted { IsSome self.new.draft.fault }
+        ensures others { OnlyFault self.old self.new }
+    {
+        match self.expressions.fault() {
+            Some(first) => self.draft.fail(first),
+            None => self.draft.fail(error),
+        }
+    }
+
+    /// Writes a claim down.
+    pub(crate) fn claim(&mut self, claimed: Claimed, condition: Option<usize>, label: Option<usize>)
+        ensures { AddsClaim (record { claimed = claimed; condition = condition; label = label })
+            self.old self.new }
+    {
+        self.draft.claim(Claim {
+            claimed,
+            condition,
+            label,
+        });
+    }
+
+    /// Claims that `x` is zero.
+    pub(crate) fn zero(&mut self, x: Expr, condition: Option<usize>, label: Option<usize>)
+        ensures { ClaimsOf Zero x.now condition label self.old self.new }
+    {
+        match self.expressions.number_of(x) {
+            Ok(n) => self.claim(Claimed::Zero(n), condition, label),
+            Err(error) => self.fail(error),
+        }
+    }
+
+    /// Claims that `x` is one.
+    pub(crate) fn one(&mut self, x: Expr, condition: Option<usize>, label: Option<usize>)
+        ensures { ClaimsOf One x.now condition label self.old self.new }
+    {
+        match self.expressions.number_of(x) {
+            Ok(n) => self.claim(Claimed::One(n), condition, label),
+            Err(error) => self.fail(error),
+        }
+    }
+
+    /// Claims that `x` is zero or one.
+    pub(crate) fn bit(&mut self, x: Expr, condition: Option<usize>, label: Option<usize>)
+        ensures { ClaimsOf Bool x.now condition label self.old self.new }
+    {
+        match self.expressions.number_of(x) {
+            Ok(n) => self.claim(Claimed::Bool(n), condition, label),
+            Err(error) => self.fail(error),
+        }
+    }
+
+    /// Claims that both are equal.
+    pub(crate) fn equal(&mut self, x: Expr, y: Expr, condition: Option<usize>, label: Option<usize>)
+        ensures { ClaimsOfBoth Equal x.now y.now condition label self.old self.new }
+    {
+        match self.expressions.numbers_of(x, y) {
+            Ok((m, n)) => self.claim(Claimed::Equal(m, n), condition, label),
+            Err(error) => self.fail(error),
+        }
+    }
+
+    /// Writes a condition down, under an outer one if there is one.
+    pub(crate) fn under(&mut self, outer: Option<usize>, factor: Factor) -> Option<usize>
+        ensures { AddsCondition factor outer result self.old self.new }
+    {
+        Some(self.draft.condition(outer, factor))
+    }
+
+    /// Where `x` isn't zero.
+    pub(crate) fn nonzero(&mut self, outer: Option<usize>, x: Expr) -> Option<usize>
+        ensures { ConditionOf Nonzero x.now outer result self.old self.new }
+    {
+        match self.expressions.number_of(x) {
+            Ok(n) => self.under(outer, Factor::Nonzero(n)),
+            Err(error) => {
+                self.fail(error);
+                None
+            }
+        }
+    }
+
+    /// Where both differ.
+    pub(crate) fn different(&mut self, outer: Option<usize>, x: Expr, y: Expr) -> Option<usize>
+        ensures { ConditionOfBoth Different x.now y.now outer result self.old self.new }
+    {
+        match self.expressions.numbers_of(x, y) {
+            Ok((m, n)) => self.under(outer, Factor::Different(m, n)),
+            Err(error) => {
+                self.fail(error);
+                None
+            }
+        }
+    }
+
+    /// Writes a label down, under an outer one if there is one.
+    pub(crate) fn label(&mut self, outer: Option<usize>, text: &str) -> Option<usize>
+        ensures { AddsLabel text.now outer result self.old self.new }
+    {
+        Some(self.draft.label(outer, text))
+    }
+
+    /// Writes the label of an index down, under an outer one; without one it is none.
+    pub(crate) fn index_label(&mut self, outer: Option<usize>, index: usize) -> Option<usize>
+        ensures { AddsIndexLabel (element_text index) outer result self.old self.new }
+    {
+        match outer {
+            Some(_) => Some(self.draft.index_label(outer, index)),
+            None => None,
+        }
+    }
+}
