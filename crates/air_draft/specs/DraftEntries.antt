@@ -1,4 +1,4 @@
--- What the calls that write an entry change of a draft.
+-- What the calls that write an entry change of notes and of a draft.
 use Rattle.std.specs.Prelude.{◌≡◌, ◌⊎◌, ◌+◌, ℕ, List, [], ◌∷◌, ◌++◌, Option, None, Some, IsSome, unwrap_or, slice_get}
 use Rattle.std.specs.Prelude.{String, string_bytes, Vec}
 use Rattle.std.specs.Global.{Global}
@@ -6,10 +6,9 @@ use Rattle.air_core.specs.Texts.{colons}
 use Rattle.air_core.specs.declared.errors.AirError.{AirError}
 use Rattle.air_core.specs.declared.errors.AirError.TheVariants.{Memory, CountOverflow}
 use Rattle.air_core.specs.declared.boundary.BoundaryPublic.{BoundaryPublic}
-use Rattle.air_draft.specs.declared.step.Step.{Step}
 use Rattle.air_draft.specs.declared.claim.Claim.{Claim}
 use Rattle.air_draft.specs.declared.claim.Factor.{Factor}
-use Rattle.air_draft.specs.declared.draft.Draft.{Draft}
+use Rattle.air_draft.specs.declared.notes.Notes.{Notes}
 use Rattle.air_draft.specs.declared.ext_step.ExtStep.{ExtStep}
 use Rattle.air_draft.specs.declared.ext_draft.ExtDraft.{ExtDraft}
 
@@ -23,36 +22,27 @@ pub record NotesOnly (e : AirError) (before after : Option AirError) : Type 0 wh
   pub only : (after ≡ before) ⊎ (after ≡ Some e)
 
 -- e is noted if it is the first fault, and all else stays
-pub record NotesFault {F : Type 0} (e : AirError) (a b : Draft F) : Type 0 where
+pub record NotesFault (e : AirError) (a b : Notes) : Type 0 where
   pub fault : b.fault ≡ Some (unwrap_or a.fault e)
   pub others : b ≡ record a { fault = b.fault }
 
--- one constant more
-pub record WritesConstant {F : Type 0} (c : F) (a b : Draft F) : Type 0 where
-  pub constants : b.fault ≡ None → b.constants.items ≡ a.constants.items ++ c ∷ []
-  pub fault : NotesOnly Memory a.fault b.fault
-  pub others : b ≡ record a { constants = b.constants; fault = b.fault }
-
--- one step more
-pub record WritesStep {F : Type 0} (s : Step) (a b : Draft F) : Type 0 where
-  pub steps : b.fault ≡ None → b.steps.items ≡ a.steps.items ++ s ∷ []
-  pub fault : NotesOnly Memory a.fault b.fault
-  pub others : b ≡ record a { steps = b.steps; fault = b.fault }
-
 -- one step over the extension more
 pub record WritesExtStep {F EF : Type 0} (s : ExtStep F EF) (a b : ExtDraft F EF) : Type 0 where
-  pub steps : b.base.fault ≡ None → b.steps.items ≡ a.steps.items ++ s ∷ []
-  pub fault : NotesOnly Memory a.base.fault b.base.fault
-  pub others : b ≡ record a { base = record a.base { fault = b.base.fault }; steps = b.steps }
+  pub steps : b.base.notes.fault ≡ None → b.steps.items ≡ a.steps.items ++ s ∷ []
+  pub fault : NotesOnly Memory a.base.notes.fault b.base.notes.fault
+  pub others : b ≡ record a {
+    base = record a.base { notes = record a.base.notes { fault = b.base.notes.fault } };
+    steps = b.steps;
+  }
 
 -- one claim more
-pub record WritesClaim {F : Type 0} (c : Claim) (a b : Draft F) : Type 0 where
+pub record WritesClaim (c : Claim) (a b : Notes) : Type 0 where
   pub claims : b.fault ≡ None → b.claims.items ≡ a.claims.items ++ c ∷ []
   pub fault : NotesOnly Memory a.fault b.fault
   pub others : b ≡ record a { claims = b.claims; fault = b.fault }
 
 -- one condition more, which has these factors
-pub record WritesCondition {F : Type 0} (factors : List Factor) (a b : Draft F) : Type 0 where
+pub record WritesCondition (factors : List Factor) (a b : Notes) : Type 0 where
   pub conditions : b.fault ≡ None → OneMore (λ v. v.items ≡ factors) a.conditions.items b.conditions.items
   pub fault : NotesOnly Memory a.fault b.fault
   pub others : b ≡ record a { conditions = b.conditions; fault = b.fault }
@@ -68,25 +58,19 @@ label_text labels None text = text
 label_text labels (Some k) text = text_under (slice_get labels k) text
 
 -- one label more, which has this text
-pub record WritesLabel {F : Type 0} (text : List ℕ) (a b : Draft F) : Type 0 where
+pub record WritesLabel (text : List ℕ) (a b : Notes) : Type 0 where
   pub labels : b.fault ≡ None → OneMore (λ s. string_bytes s ≡ text) a.labels.items b.labels.items
   pub fault : NotesOnly Memory a.fault b.fault
   pub others : b ≡ record a { labels = b.labels; fault = b.fault }
 
 -- as many columns more
-pub record AddsColumns {F : Type 0} (count : ℕ) (a b : Draft F) : Type 0 where
+pub record AddsColumns (count : ℕ) (a b : Notes) : Type 0 where
   pub width : b.fault ≡ None → b.width ≡ a.width + count
   pub fault : NotesOnly CountOverflow a.fault b.fault
   pub others : b ≡ record a { width = b.width; fault = b.fault }
 
--- one periodic column more, of which P holds
-pub record AddsPeriodic {F : Type 0} (P : Vec F Global → Type 0) (a b : Draft F) : Type 0 where
-  pub periodic : b.fault ≡ None → OneMore P a.periodic.items b.periodic.items
-  pub fault : NotesOnly Memory a.fault b.fault
-  pub others : b ≡ record a { periodic = b.periodic; fault = b.fault }
-
 -- one boundary value more
-pub record AddsBoundary {F : Type 0} (cell : BoundaryPublic) (a b : Draft F) : Type 0 where
+pub record AddsBoundary (cell : BoundaryPublic) (a b : Notes) : Type 0 where
   pub boundary : b.fault ≡ None → b.boundary.items ≡ a.boundary.items ++ cell ∷ []
   pub fault : NotesOnly Memory a.fault b.fault
   pub others : b ≡ record a { boundary = b.boundary; fault = b.fault }

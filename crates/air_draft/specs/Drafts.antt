@@ -9,27 +9,33 @@ use Rattle.air_core.specs.declared.errors.AirError.{AirError}
 use Rattle.air_audit.specs.RecordedAirs.{RecordsBaseTerms}
 use Rattle.air_audit.specs.RootLabels.{bytes_or_none}
 use Rattle.air_draft.specs.declared.claim.Claim.{Claim}
+use Rattle.air_draft.specs.declared.notes.Notes.{Notes}
+use Rattle.air_draft.specs.declared.fixed.Fixed.{Fixed}
 use Rattle.air_draft.specs.declared.draft.Draft.{Draft}
 use Rattle.air_draft.specs.DraftTerms.{step_terms, term_at, claim_term}
 use Rattle.air_draft.specs.Making.{MakingRefuses, SomeOverflows}
 
+-- what an AIR has beside its constraints, of what is noted and what is fixed
+abbrev pub beside_from : {F : Type 0} → Notes → Fixed F → Beside F
+beside_from n f = record {
+  width = n.width;
+  num_public_values = n.num_public_values;
+  preprocessed = f.preprocessed;
+  periodic = f.periodic;
+  cells = n.boundary;
+}
+
 -- what a draft's AIR has beside its constraints
 abbrev pub beside_of : {F : Type 0} → Draft F → Beside F
-beside_of d = record {
-  width = d.width;
-  num_public_values = d.num_public_values;
-  preprocessed = d.preprocessed;
-  periodic = d.periodic;
-  cells = d.boundary;
-}
+beside_of d = beside_from d.notes d.fixed
 
 -- the terms of a draft's steps, in order
 abbrev pub draft_terms : {F : Type 0} → CommRing F → F → Draft F → List (Term F)
-draft_terms r one d = step_terms r one d.constants.items d.steps.items
+draft_terms r one d = step_terms r one d.fixed.constants.items d.steps.items
 
 -- what each claim says to be zero, in order
 abbrev pub claim_terms : {F : Type 0} → CommRing F → F → Draft F → List (Term F)
-claim_terms r one d = map (claim_term one (term_at (draft_terms r one d)) d.conditions.items) d.claims.items
+claim_terms r one d = map (claim_term one (term_at (draft_terms r one d)) d.notes.conditions.items) d.notes.claims.items
 
 -- the list that a draft declares: that each of these is zero
 abbrev pub declared_by : {F : Type 0} → CommRing F → F → Draft F → List (Assertion F)
@@ -55,9 +61,9 @@ DraftOverflows r one d = SomeOverflows (draft_terms r one d ++ claim_terms r one
 
 -- below this are the numbers of the draft's steps and the places of its constants
 abbrev pub number_bound : {F : Type 0} → Draft F → ℕ
-number_bound d = max (length d.steps.items) (length d.constants.items)
+number_bound d = max (length d.steps.items) (length d.fixed.constants.items)
 
 -- Why a draft makes no AIR: what went wrong first while it was written. Only where nothing did, what the making of its
 -- expressions refuses.
 abbrev pub DraftRefuses : {F : Type 0} → CommRing F → F → Draft F → AirError → Type 0
-DraftRefuses r one d e = (d.fault ≡ Some e) ⊎ ((d.fault ≡ None) × MakingRefuses (number_bound d) (DraftOverflows r one d) e)
+DraftRefuses r one d e = (d.notes.fault ≡ Some e) ⊎ ((d.notes.fault ≡ None) × MakingRefuses (number_bound d) (DraftOverflows r one d) e)

@@ -24,7 +24,7 @@ ext_terms_of r one basis d = ext_step_terms basis (term_at (base_terms_of r one 
 -- the list that a draft declares: what each claim asserts, in order
 abbrev pub ext_declared_by : {F EF : Type 0} → CommRing F → F → Basis F EF → ExtDraft F EF → List (Assertion F)
 ext_declared_by r one basis d =
-    map (claim_assertion one (term_at (base_terms_of r one d)) (term_at (ext_terms_of r one basis d)) d.base.conditions.items) d.base.claims.items
+    map (claim_assertion one (term_at (base_terms_of r one d)) (term_at (ext_terms_of r one basis d)) d.base.notes.conditions.items) d.base.notes.claims.items
 
 -- an assertion records another one of its kind: its term has the polynomial, the values and at most the degree of the
 -- other's, over the extension, and of base assertions over the base field too
@@ -55,5 +55,5 @@ ExtMakingRefuses n over e = MakingRefuses n over e
 -- expressions refuses.
 abbrev pub ExtDraftRefuses : {F EF : Type 0} → CommRing F → F → Basis F EF → ExtDraft F EF → AirError → Type 0
 ExtDraftRefuses r one basis d e =
-    (d.base.fault ≡ Some e)
-    ⊎ ((d.base.fault ≡ None) × ExtMakingRefuses (ext_number_bound d) (ExtDraftOverflows r one basis d) e)
+    (d.base.notes.fault ≡ Some e)
+    ⊎ ((d.base.notes.fault ≡ None) × ExtMakingRefuses (ext_number_bound d) (ExtDraftOverflows r one basis d) e)

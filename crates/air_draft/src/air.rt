@@ -10,7 +10,7 @@ use crate::claim::Claim;
 use crate::draft::Draft;
 use crate::roots::make_roots;
 use crate::steps::make_steps;
-use air_audit::{BaseAir, Beside, FlatAir};
+use air_audit::{BaseAir, FlatAir};
 use air_core::AirError;
 use air_field::Field;
 use air_symbolic::{BaseLeaf, ExprId, ExprPool};
@@ -60,15 +60,16 @@ impl<F: Field> Draft<F> {
         ensures means { IfOk result (λ m. AllZip (PoolMeans base_reads F.ring m.pool)
             m.roots.items (claim_terms F.ring F.ONE self.now)) }
         ensures labels { IfOk result (λ m. map string_bytes m.labels.items
-            ≡ claim_labels self.now.labels.items self.now.claims.items) }
+            ≡ claim_labels self.now.notes.labels.items self.now.notes.claims.items) }
         ensures refused { IfErr result (MakingRefuses (number_bound self.now)
             (DraftOverflows F.ring F.ONE self.now)) }
     {
         let alloc = *self.steps.allocator();
         let mut pool = ExprPool::new(alloc);
-        let made = make_steps(alloc, &mut pool, &self.constants, &self.steps)?;
-        let roots = make_roots(alloc, &mut pool, &made, &self.conditions, &self.claims)?;
-        let labels = claim_labels(alloc, &self.labels, &self.claims)?;
+        let made = make_steps(alloc, &mut pool, &self.fixed.constants, &self.steps)?;
+        let notes = &self.notes;
+        let roots = make_roots(alloc, &mut pool, &made, &notes.conditions, &notes.claims)?;
+        let labels = claim_labels(alloc, &notes.labels, &notes.claims)?;
         Ok(Made {
             pool,
             roots,
@@ -85,11 +86,11 @@ impl<F: Field> Draft<F> {
             (⟦<FlatAir<F> as BaseAir<F>>⟧.declaration a).constraints) }
         ensures beside { IfOk result (λ a. a.beside ≡ beside_of self) }
         ensures labels { IfOk result (λ a. map string_bytes a.labels.items
-            ≡ claim_labels self.labels.items self.claims.items) }
-        ensures faultless { IfOk result (λ _. self.fault ≡ None) }
+            ≡ claim_labels self.notes.labels.items self.notes.claims.items) }
+        ensures faultless { IfOk result (λ _. self.notes.fault ≡ None) }
         ensures refused { IfErr result (DraftRefuses F.ring F.ONE self) }
     {
-        if let Some(error) = self.fault {
+        if let Some(error) = self.notes.fault {
             return Err(error);
         }
         let Made {
@@ -97,22 +98,7 @@ impl<F: Field> Draft<F> {
             roots,
             labels,
         } = self.make()?;
-        let Draft {
-            width,
-            num_public_values,
-            preprocessed,
-            periodic,
-            boundary,
-            ..
-        } = self;
-        let beside = Beside {
-            width,
-            num_public_values,
-            preprocessed,
-            periodic,
-            cells: boundary,
-        };
-        let air = FlatAir::new(pool, roots, beside)?;
+        let air = FlatAir::new(pool, roots, self.into_beside())?;
         Ok(air.with_labels(labels))
     }
 }

@@ -1,244 +1,47 @@
-//! A draft: what was written down so far.
-ghost use Rattle.std.specs.Prelude.{◌≡◌, ◌∷◌, [], length, map, None, IfOk, string_bytes};
-ghost use Rattle.air_field.specs.Ring.{image};
-ghost use Rattle.air_core.specs.Texts.{element_text};
-ghost use Rattle.air_draft.specs.DraftTerms.{factors_of};
-ghost use Rattle.air_draft.specs.DraftEntries.{NotesFault, WritesConstant, WritesStep, WritesClaim, WritesCondition, WritesLabel, label_text, AddsColumns, AddsPeriodic, AddsBoundary};
+//! A draft: all that was written down.
+ghost use Rattle.std.specs.Prelude.{◌≡◌, [], length};
+ghost use Rattle.air_draft.specs.Drafts.{beside_of};
 
-use crate::claim::{Claim, Factor};
+use crate::fixed::Fixed;
+use crate::notes::Notes;
 use crate::step::Step;
-use air_core::AirError;
-use air_core::boundary::BoundaryPublic;
-use air_field::{Field, RowMajorMatrix};
-use std::alloc::{AllocError, Global};
+use air_audit::Beside;
+use air_field::Field;
 
-/// What was written down: the shape of the trace and what lies beside it, the expressions, and what is claimed of them.
-/// A call of an author writes an entry, or a few.
+/// All that was written down: what is noted, what is fixed, and the expressions. A call of an author writes one entry.
 #[derive(Drop)]
 pub struct Draft<F: Field> {
-    /// The number of columns of the main trace.
-    pub width: usize,
-    pub num_public_values: usize,
-    /// The preprocessed trace, if there is one.
-    pub preprocessed: Option<RowMajorMatrix<F>>,
-    /// The periodic columns, each the values of one period.
-    pub periodic: Vec<Vec<F>>,
-    /// The boundary values.
-    pub boundary: Vec<BoundaryPublic>,
-    /// The constants of the field that steps name by their places here.
-    pub constants: Vec<F>,
+    /// The shape of the trace, and what is claimed of expressions.
+    pub notes: Notes,
+    /// The preprocessed trace, the periodic columns and the constants.
+    pub fixed: Fixed<F>,
     /// The expressions: each is known by the number of its step.
     pub steps: Vec<Step>,
-    /// The conditions of claims: each lists its factors, the innermost first.
-    pub conditions: Vec<Vec<Factor>>,
-    pub labels: Vec<String>,
-    pub claims: Vec<Claim>,
-    /// What went wrong first, if anything did.
-    pub fault: Option<AirError>,
 }
 
 impl<F: Field> Draft<F> {
-    /// An empty draft of an AIR whose main trace has `width` columns.
-    pub fn new(alloc: Global, width: usize) -> Self
-        ensures width { result.width ≡ width }
-        ensures public_values { result.num_public_values ≡ 0 }
-        ensures preprocessed { result.preprocessed ≡ None }
-        ensures periodic { result.periodic.items ≡ [] }
-        ensures boundary { result.boundary.items ≡ [] }
-        ensures constants { result.constants.items ≡ [] }
-        ensures steps { result.steps.items ≡ [] }
-        ensures conditions { result.conditions.items ≡ [] }
-        ensures labels { result.labels.items ≡ [] }
-        ensures claims { result.claims.items ≡ [] }
-        ensures fault { result.fault ≡ None }
+    // What its AIR has beside the constraints.
+    pub(crate) fn into_beside(self) -> Beside<F>
+        ensures { result ≡ beside_of self }
     {
-        Draft {
+        let Draft { notes, fixed, .. } = self;
+        let Notes {
             width,
-            num_public_values: 0,
-            preprocessed: None,
-            periodic: Vec::new(alloc),
-            boundary: Vec::new(alloc),
-            constants: Vec::new(alloc),
-            steps: Vec::new(alloc),
-            conditions: Vec::new(alloc),
-            labels: Vec::new(alloc),
-            claims: Vec::new(alloc),
-            fault: None,
+            num_public_values,
+            boundary,
+            ..
+        } = notes;
+        let Fixed {
+            preprocessed,
+            periodic,
+            ..
+        } = fixed;
+        Beside {
+            width,
+            num_public_values,
+            preprocessed,
+            periodic,
+            cells: boundary,
         }
     }
-
-    /// Notes a fault, if it is the first.
-    pub fn fail(&mut self, error: AirError)
-        ensures { NotesFault error self.old self.new }
-    {
-        if self.fault.is_none() {
-            self.fault = Some(error);
-        }
-    }
-
-    /// Writes a constant of the field down and answers its place among them.
-    pub fn constant(&mut self, c: F) -> usize
-        ensures place { result ≡ length self.old.constants.items }
-        ensures written { WritesConstant c self.old self.new }
-    {
-        let place = self.constants.len();
-        if self.constants.push(c).is_err() {
-            self.fail(AirError::Memory);
-        }
-        place
-    }
-
-    /// Writes a step down and answers its number.
-    pub fn step(&mut self, step: Step) -> usize
-        ensures number { result ≡ length self.old.steps.items }
-        ensures written { WritesStep step self.old self.new }
-    {
-        let number = self.steps.len();
-        if self.steps.push(step).is_err() {
-            self.fail(AirError::Memory);
-        }
-        number
-    }
-
-    /// Writes a claim down.
-    pub fn claim(&mut self, claim: Claim)
-        ensures { WritesClaim claim self.old self.new }
-    {
-        if self.claims.push(claim).is_err() {
-            self.fail(AirError::Memory);
-        }
-    }
-
-    // The factors of a condition under another one, if there is one.
-    fn factors_under(&self, outer: Option<usize>, factor: Factor) -> Result<Vec<Factor>, AllocError>
-        ensures { IfOk result (λ v. v.items ≡ factor ∷ factors_of self.now.conditions.items outer) }
-    {
-        let mut factors = Vec::new(*self.conditions.allocator());
-        factors.push(factor)?;
-        if let Some(outer) = outer {
-            if let Some(others) = self.conditions.get(outer) {
-                factors.extend_from_slice(others)?;
-            }
-        }
-        Ok(factors)
-    }
-
-    /// Writes a condition down, under an outer one if there is one, and answers its number.
-    pub fn condition(&mut self, outer: Option<usize>, factor: Factor) -> usize
-        ensures number { result ≡ length self.old.conditions.items }
-        ensures written { WritesCondition (factor ∷ factors_of self.old.conditions.items outer)
-            self.old self.new }
-    {
-        let number = self.conditions.len();
-        match self.factors_under(outer, factor) {
-            Ok(factors) => {
-                if self.conditions.push(factors).is_err() {
-                    self.fail(AirError::Memory);
-                }
-            }
-            Err(_) => self.fail(AirError::Memory),
-        }
-        number
-    }
-
-    // The text of a label under another one, if there is one.
-    fn text_under(&self, outer: Option<usize>, text: &str) -> Result<String, AllocError>
-        ensures { IfOk result (λ label. string_bytes label
-            ≡ label_text self.now.labels.items outer text.now) }
-    {
-        let mut label = String::new(*self.labels.allocator());
-        if let Some(outer) = outer {
-            if let Some(other) = self.labels.get(outer) {
-                label.push_str(other)?;
-                label.push_str("::")?;
-            }
-        }
-        label.push_str(text)?;
-        Ok(label)
-    }
-
-    /// Writes a label down, under an outer one if there is one, and answers its number.
-    pub fn label(&mut self, outer: Option<usize>, text: &str) -> usize
-        ensures number { result ≡ length self.old.labels.items }
-        ensures written { WritesLabel (label_text self.old.labels.items outer text.now) self.old
-            self.new }
-    {
-        let number = self.labels.len();
-        match self.text_under(outer, text) {
-            Ok(label) => {
-                if self.labels.push(label).is_err() {
-                    self.fail(AirError::Memory);
-                }
-            }
-            Err(_) => self.fail(AirError::Memory),
-        }
-        number
-    }
-
-    /// Writes the label `[index]` down, under an outer one if there is one, and answers its number.
-    pub fn index_label(&mut self, outer: Option<usize>, index: usize) -> usize
-        ensures number { result ≡ length self.old.labels.items }
-        ensures written { WritesLabel
-            (label_text self.old.labels.items outer (element_text index)) self.old self.new }
-    {
-        match format!(in *self.labels.allocator(); "[{index}]") {
-            Ok(text) => self.label(outer, &text),
-            Err(_) => {
-                self.fail(AirError::Memory);
-                self.labels.len()
-            }
-        }
-    }
-
-    /// Adds columns to the main trace and answers the first one's index.
-    pub fn columns(&mut self, count: usize) -> usize
-        ensures first { result ≡ self.old.width }
-        ensures added { AddsColumns count self.old self.new }
-    {
-        let first = self.width;
-        match first.checked_add(count) {
-            Some(width) => self.width = width,
-            None => self.fail(AirError::CountOverflow),
-        }
-        first
-    }
-
-    /// Adds a periodic column.
-    pub fn add_periodic(&mut self, column: Vec<F>)
-        ensures { AddsPeriodic (λ v. v ≡ column) self.old self.new }
-    {
-        if self.periodic.push(column).is_err() {
-            self.fail(AirError::Memory);
-        }
-    }
-
-    /// Adds a periodic column of whole numbers.
-    pub fn add_periodic_numbers(&mut self, numbers: &[u64])
-        ensures { AddsPeriodic (λ v. v.items ≡ map (image F.ring) numbers.now) self.old self.new }
-    {
-        match elements_of(*self.periodic.allocator(), numbers) {
-            Ok(column) => self.add_periodic(column),
-            Err(_) => self.fail(AirError::Memory),
-        }
-    }
-
-    /// Adds a boundary value.
-    pub fn add_boundary(&mut self, cell: BoundaryPublic)
-        ensures { AddsBoundary cell self.old self.new }
-    {
-        if self.boundary.push(cell).is_err() {
-            self.fail(AirError::Memory);
-        }
-    }
-}
-
-// The elements of whole numbers.
-fn elements_of<F: Field>(alloc: Global, numbers: &[u64]) -> Result<Vec<F>, AllocError>
-    ensures { IfOk result (λ v. v.items ≡ map (image F.ring) numbers.now) }
-{
-    let mut elements = Vec::new(alloc);
-    for n in numbers {
-        elements.push(F::from_u64(*n))?;
-    }
-    Ok(elements)
 }

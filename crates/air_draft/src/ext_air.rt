@@ -9,12 +9,11 @@ ghost use Rattle.air_draft.specs.ExtRoots.{RootMeans};
 ghost use Rattle.air_draft.specs.ExtDrafts.{ext_declared_by, RecordsExtDraft, ExtDraftOverflows, ext_number_bound, ExtDraftRefuses};
 
 use crate::air::claim_labels;
-use crate::draft::Draft;
 use crate::ext_draft::ExtDraft;
 use crate::ext_roots::make_any_roots;
 use crate::ext_steps::make_ext_steps;
 use crate::steps::make_steps;
-use air_audit::{BaseAir, Beside, FlatExtAir, Root};
+use air_audit::{BaseAir, FlatExtAir, Root};
 use air_core::AirError;
 use air_field::{ExtensionField, Field};
 use air_symbolic::{ExprPool, ExtLeaf};
@@ -34,22 +33,23 @@ impl<F: Field, EF: ExtensionField<F>> ExtDraft<F, EF> {
         ensures means { IfOk result (λ m. AllZip (RootMeans F.ring EF.basis m.pool) m.roots.items
             (ext_declared_by F.ring F.ONE EF.basis self.now)) }
         ensures labels { IfOk result (λ m. map string_bytes m.labels.items
-            ≡ claim_labels self.now.base.labels.items self.now.base.claims.items) }
+            ≡ claim_labels self.now.base.notes.labels.items self.now.base.notes.claims.items) }
         ensures refused { IfErr result (MakingRefuses (ext_number_bound self.now)
             (ExtDraftOverflows F.ring F.ONE EF.basis self.now)) }
     {
         let alloc = *self.steps.allocator();
-        let (conditions, claims) = (&self.base.conditions, &self.base.claims);
+        let notes = &self.base.notes;
+        let (conditions, claims) = (&notes.conditions, &notes.claims);
         let mut pool = ExprPool::new(alloc);
         let base = make_steps(
             alloc,
             pool.base_mut(),
-            &self.base.constants,
+            &self.base.fixed.constants,
             &self.base.steps,
         )?;
         let made = make_ext_steps(alloc, &mut pool, &base, &self.steps)?;
         let roots = make_any_roots(alloc, &mut pool, &base, &made, conditions, claims)?;
-        let labels = claim_labels(alloc, &self.base.labels, claims)?;
+        let labels = claim_labels(alloc, &notes.labels, claims)?;
         Ok(Made {
             pool,
             roots,
@@ -67,11 +67,11 @@ impl<F: Field, EF: ExtensionField<F>> ExtDraft<F, EF> {
             (⟦<FlatExtAir<F, EF> as BaseAir<F>>⟧.declaration a).constraints) }
         ensures beside { IfOk result (λ a. a.beside ≡ beside_of self.base) }
         ensures labels { IfOk result (λ a. map string_bytes a.labels.items
-            ≡ claim_labels self.base.labels.items self.base.claims.items) }
-        ensures faultless { IfOk result (λ _. self.base.fault ≡ None) }
+            ≡ claim_labels self.base.notes.labels.items self.base.notes.claims.items) }
+        ensures faultless { IfOk result (λ _. self.base.notes.fault ≡ None) }
         ensures refused { IfErr result (ExtDraftRefuses F.ring F.ONE EF.basis self) }
     {
-        if let Some(error) = self.base.fault {
+        if let Some(error) = self.base.notes.fault {
             return Err(error);
         }
         let Made {
@@ -80,22 +80,7 @@ impl<F: Field, EF: ExtensionField<F>> ExtDraft<F, EF> {
             labels,
         } = self.make()?;
         let ExtDraft { base, .. } = self;
-        let Draft {
-            width,
-            num_public_values,
-            preprocessed,
-            periodic,
-            boundary,
-            ..
-        } = base;
-        let beside = Beside {
-            width,
-            num_public_values,
-            preprocessed,
-            periodic,
-            cells: boundary,
-        };
-        let air = FlatExtAir::new(pool, roots, beside)?;
+        let air = FlatExtAir::new(pool, roots, base.into_beside())?;
         Ok(air.with_labels(labels))
     }
 }

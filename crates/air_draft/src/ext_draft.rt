@@ -35,7 +35,7 @@ impl<F: Field, EF: ExtensionField<F>> ExtDraft<F, EF> {
     {
         let number = self.steps.len();
         if self.steps.push(step).is_err() {
-            self.base.fail(AirError::Memory);
+            self.base.notes.fail(AirError::Memory);
         }
         number
     }

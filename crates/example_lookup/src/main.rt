@@ -3,7 +3,7 @@
 #![tactic(auto)]
 
 use p3_air::{
-    AirError, BabyBear, Constraints, Expressions, Field, FlatAir, RowMajorMatrix, TraceRows,
+    AirError, BabyBear, Constraints, Expressions, Field, Fixed, FlatAir, RowMajorMatrix, TraceRows,
     print_audit, trace_of_rows,
 };
 use std::alloc::Global;
@@ -20,11 +20,8 @@ fn squares<F: Field>(alloc: Global) -> Result<RowMajorMatrix<F>, AirError> {
 
 /// The public value is the number of selected rows.
 fn lookup<F: Field>(alloc: Global) -> Result<FlatAir<F>, AirError> {
-    let table = squares(alloc)?;
     let e = Expressions::new(alloc);
-    let mut c = Constraints::new(alloc, &e, 0)
-        .with_public_values(1)
-        .with_preprocessed(table);
+    let mut c = Constraints::new(alloc, &e, 0).with_public_values(1);
     let (x, y, selector, count) = (c.column(), c.column(), c.column(), c.column());
     let selected = selector.current();
     c.named("selector is a bit").assert_bool(selected);
@@ -44,7 +41,7 @@ fn lookup<F: Field>(alloc: Global) -> Result<FlatAir<F>, AirError> {
     c.when_last_row()
         .named("count::ends")
         .assert_eq(count.current(), e.public(0));
-    c.into_air()
+    c.into_air_with(Fixed::new(alloc).with_preprocessed(squares(alloc)?))
 }
 
 fn main(rt: HostRuntime) -> io::Result<()> {

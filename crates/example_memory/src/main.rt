@@ -3,7 +3,7 @@
 
 use p3_air::boundary::BoundaryEnd;
 use p3_air::{
-    AirError, BabyBear, Constraints, Expressions, Field, FlatAir, print_audit, trace_of_rows,
+    AirError, BabyBear, Constraints, Expressions, Field, Fixed, FlatAir, print_audit, trace_of_rows,
 };
 use std::alloc::Global;
 use std::io;
@@ -14,7 +14,6 @@ fn memory<F: Field>(alloc: Global) -> Result<FlatAir<F>, AirError> {
     let e = Expressions::new(alloc);
     let mut c = Constraints::new(alloc, &e, 0)
         .with_public_values(1)
-        .with_periodic_numbers(&[0, 1])
         .with_boundary(2, BoundaryEnd::First, 0);
     let (address, clock, value) = (c.column(), c.column(), c.column());
     let (is_write, same, parity) = (c.column(), c.column(), c.column());
@@ -51,7 +50,7 @@ fn memory<F: Field>(alloc: Global) -> Result<FlatAir<F>, AirError> {
         .named("step::a new address is written")
         .assert_one(is_write.next());
     c.when_last_row().named("end").assert_zero(same.current());
-    c.into_air()
+    c.into_air_with(Fixed::new(alloc).with_periodic_numbers(&[0, 1])?)
 }
 
 fn main(rt: HostRuntime) -> io::Result<()> {

@@ -69,7 +69,7 @@ fn internal_layer<'a>(state: State<'a>) -> State<'a> {
 }
 
 /// x^7. One new column holds x^3 and another x^7.
-fn s_box<'a>(c: &mut Constraints<'a, BabyBear>, x: Element<'a>) -> Element<'a> {
+fn s_box<'a>(c: &mut Constraints<'a>, x: Element<'a>) -> Element<'a> {
     let cube = c.column().current();
     let seventh = c.column().current();
     c.assert_eq(cube, x.cube());
@@ -77,7 +77,7 @@ fn s_box<'a>(c: &mut Constraints<'a, BabyBear>, x: Element<'a>) -> Element<'a> {
     seventh
 }
 
-fn s_boxes<'a>(c: &mut Constraints<'a, BabyBear>, x: Four<'a>, constants: [u64; 4]) -> Four<'a> {
+fn s_boxes<'a>(c: &mut Constraints<'a>, x: Four<'a>, constants: [u64; 4]) -> Four<'a> {
     let [x0, x1, x2, x3] = x;
     [
         s_box(c, x0 + constants[0]),
@@ -88,7 +88,7 @@ fn s_boxes<'a>(c: &mut Constraints<'a, BabyBear>, x: Four<'a>, constants: [u64; 
 }
 
 fn external_round<'a>(
-    c: &mut Constraints<'a, BabyBear>,
+    c: &mut Constraints<'a>,
     state: State<'a>,
     constants: &[[u64; 4]; 4],
 ) -> State<'a> {
@@ -102,7 +102,7 @@ fn external_round<'a>(
 }
 
 fn internal_round<'a>(
-    c: &mut Constraints<'a, BabyBear>,
+    c: &mut Constraints<'a>,
     state: State<'a>,
     constant: u64,
 ) -> State<'a> {
@@ -112,13 +112,13 @@ fn internal_round<'a>(
 }
 
 // Adds four columns.
-fn four<'a>(c: &mut Constraints<'a, BabyBear>) -> Four<'a> {
+fn four<'a>(c: &mut Constraints<'a>) -> Four<'a> {
     let x = c.columns(4);
     [x.current(0), x.current(1), x.current(2), x.current(3)]
 }
 
 // Adds four columns and asserts that they hold the elements.
-fn assert_in_columns<'a>(c: &mut Constraints<'a, BabyBear>, index: usize, elements: Four<'a>) {
+fn assert_in_columns<'a>(c: &mut Constraints<'a>, index: usize, elements: Four<'a>) {
     let columns = four(c);
     c.named("output")
         .at(index)

@@ -1,13 +1,13 @@
--- Of what is written into the draft of constraints.
+-- Of what is noted.
 use Rattle.std.proofs.Common.{◌≡◌, Option, None, Some, refl, sym, ◌∙◌}
 use Rattle.std.specs.Prelude.{IsSomeAnd, Result, Ok, Err, IfOk, IfErr}
 use Rattle.air_core.specs.declared.errors.AirError.{AirError}
 use Rattle.air_draft.specs.DraftEntries.{NotesOnly}
-use Rattle.air_draft.specs.declared.draft.Draft.{Draft}
+use Rattle.air_draft.specs.declared.notes.Notes.{Notes}
 use Rattle.p3_air.specs.declared.handles.constraints.Constraints.{Constraints}
 
-abbrev pub with_draft : {F : Type 0} → Constraints F → Draft F → Constraints F
-with_draft a d = record a { draft = d }
+abbrev pub with_notes : Constraints → Notes → Constraints
+with_notes a n = record a { notes = n }
 
 -- no fault afterwards is none before
 pub none_before : (e : AirError) (x y : Option AirError) → NotesOnly e x y → y ≡ None → x ≡ None

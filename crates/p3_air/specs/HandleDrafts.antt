@@ -1,8 +1,9 @@
 -- The draft that constraints make.
-use Rattle.std.specs.Prelude.{◌≡◌, List, None}
+use Rattle.std.specs.Prelude.{◌≡◌, List, [], None}
 use Rattle.boxcar.specs.Slot.{Named}
 use Rattle.air_tape.specs.Tapes.{Where, Told}
 use Rattle.air_draft.specs.declared.step.Step.{Step}
+use Rattle.air_draft.specs.declared.fixed.Fixed.{Fixed}
 use Rattle.air_draft.specs.declared.draft.Draft.{Draft}
 use Rattle.p3_air.specs.declared.handles.constraints.Constraints.{Constraints}
 
@@ -11,7 +12,15 @@ use Rattle.p3_air.specs.declared.handles.constraints.Constraints.{Constraints}
 abbrev pub ListsTape : List Named → List Step → Type 0
 ListsTape tape steps = (shown : List (Where Step)) × Told tape steps shown
 
--- what was written, with the steps of the expressions; where there is a fault they may be missing
-abbrev pub IsDraftOf : {F : Type 0} → Constraints F → Draft F → Type 0
-IsDraftOf c d = (d ≡ record c.draft { steps = d.steps; fault = d.fault })
-    × (d.fault ≡ None → (c.draft.fault ≡ None) × ListsTape c.expressions.now.steps d.steps.items)
+-- a draft of what was written, with the steps of the expressions, which fixes what P says; where there is a fault, steps may be missing
+abbrev pub IsDraftWith : {F : Type 0} → (Fixed F → Type 0) → Constraints → Draft F → Type 0
+IsDraftWith P c d = P d.fixed × (d.notes ≡ record c.notes { fault = d.notes.fault })
+    × (d.notes.fault ≡ None → (c.notes.fault ≡ None) × ListsTape c.expressions.now.steps d.steps.items)
+
+-- the draft fixes this
+abbrev pub IsDraftOf : {F : Type 0} → Constraints → Fixed F → Draft F → Type 0
+IsDraftOf c fixed d = IsDraftWith (λ f. f ≡ fixed) c d
+
+-- no preprocessed trace, no periodic columns, no constants of the field
+abbrev pub FixesNothing : {F : Type 0} → Fixed F → Type 0
+FixesNothing f = (f.preprocessed ≡ None) × (f.periodic.items ≡ []) × (f.constants.items ≡ [])

@@ -179,6 +179,8 @@ pub use air_draft::ExtClaimed;
 pub use air_draft::ExtDraft;
 pub use air_draft::ExtStep;
 pub use air_draft::Factor;
+pub use air_draft::Fixed;
+pub use air_draft::Notes;
 pub use air_draft::Operand;
 pub use air_draft::Step;
 pub use expressions::columns::Column;

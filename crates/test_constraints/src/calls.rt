@@ -1,7 +1,9 @@
 //! Each call, as the constraint that it writes.
 use crate::shown::print_shown;
 use p3_air::boundary::BoundaryEnd;
-use p3_air::{AirError, BabyBear, Constraints, Expressions, Field, FlatAir, trace_of_rows};
+use p3_air::{
+    AirError, BabyBear, Constraints, Expressions, Field, Fixed, FlatAir, trace_of_rows,
+};
 use std::alloc::Global;
 use std::io;
 
@@ -71,8 +73,6 @@ fn leaves(alloc: Global) -> Air {
     let e = Expressions::new(alloc);
     let mut c = Constraints::new(alloc, &e, 2)
         .with_public_values(2)
-        .with_preprocessed(table)
-        .with_periodic_numbers(&[0, 1])
         .with_boundary(1, BoundaryEnd::Last, 1);
     c.assert_zero(e.current(1));
     c.assert_zero(e.next(1));
@@ -87,10 +87,13 @@ fn leaves(alloc: Global) -> Air {
     c.assert_zero(e.is_first_row());
     c.assert_zero(e.is_last_row());
     c.assert_zero(e.is_transition());
-    let two = c.constant(BabyBear::TWO);
+    let mut fixed = Fixed::new(alloc)
+        .with_preprocessed(table)
+        .with_periodic_numbers(&[0, 1])?;
+    let two = e.constant(&mut fixed, BabyBear::TWO);
     c.assert_zero(two);
     c.assert_zero(e.number(2013265926));
-    c.into_air()
+    c.into_air_with(fixed)
 }
 
 fn columns(alloc: Global) -> Air {

@@ -2,7 +2,7 @@
 use air_export::{ExportError, export_air, export_air_alone, export_flat_air, print_object};
 use p3_air::{
     AirError, BabyBear, BoundaryEnd, Constraints, Expressions, ExtConstraints, ExtExpressions,
-    Field, FlatAir, FlatExtAir, RowMajorMatrix, trace_of_rows,
+    Field, Fixed, FlatAir, FlatExtAir, RowMajorMatrix, trace_of_rows,
 };
 use serde_json::Value;
 use std::alloc::Global;
@@ -14,10 +14,11 @@ type Object = Result<Value, ExportError>;
 /// preprocessed trace.
 fn counter(alloc: Global) -> Result<FlatAir<BabyBear>, AirError> {
     let e = Expressions::new(alloc);
+    let fixed = Fixed::new(alloc)
+        .with_preprocessed(trace_of_rows(alloc, &[[1], [5], [1], [6]])?)
+        .with_periodic_numbers(&[1, 0])?;
     let mut c = Constraints::new(alloc, &e, 2)
         .with_public_values(1)
-        .with_preprocessed(trace_of_rows(alloc, &[[1], [5], [1], [6]])?)
-        .with_periodic_numbers(&[1, 0])
         .with_boundary(1, BoundaryEnd::Last, 0);
     let (bit, count) = (e.current(0), e.current(1));
     c.assert_bool(bit);
@@ -25,7 +26,7 @@ fn counter(alloc: Global) -> Result<FlatAir<BabyBear>, AirError> {
     c.when_transition().assert_eq(e.next(1), count + bit);
     c.when(e.periodic(0))
         .assert_eq(bit, e.preprocessed_current(0));
-    c.into_air()
+    c.into_air_with(fixed)
 }
 
 /// A constraint over the extension, which is the field itself.

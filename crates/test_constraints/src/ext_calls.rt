@@ -3,7 +3,7 @@ use crate::ext_shown::print_ext_shown;
 use p3_air::boundary::BoundaryEnd;
 use p3_air::{
     AirError, BabyBear, BinomialExtensionField as Ext, ExtConstraints, ExtExpressions,
-    ExtensionField, Field, FlatExtAir, trace_of_rows,
+    ExtensionField, Field, Fixed, FlatExtAir, trace_of_rows,
 };
 use std::alloc::Global;
 use std::io;
@@ -90,9 +90,6 @@ fn leaves(alloc: Global) -> Air {
     let e = Extending::new(alloc);
     let mut c = Writing::new(alloc, &e, 2)
         .with_public_values(2)
-        .with_preprocessed(table)
-        .with_periodic_numbers(&[0, 1])
-        .with_periodic(Vec::new(alloc))
         .with_boundary(1, BoundaryEnd::Last, 1);
     let root = Ext::from_basis_coefficients(&[5, 6, 0, 7].map(BabyBear::new));
     c.assert_zero_ext(e.permutation(2));
@@ -104,11 +101,15 @@ fn leaves(alloc: Global) -> Air {
     c.assert_zero_ext(e.lift(e.preprocessed_next(1)));
     c.assert_zero_ext(e.lift(e.periodic(0)));
     c.assert_zero_ext(e.lift(e.public(1)));
-    let two = c.constant(BabyBear::TWO);
+    let mut fixed = Fixed::new(alloc)
+        .with_preprocessed(table)
+        .with_periodic_numbers(&[0, 1])?
+        .with_periodic(Vec::new(alloc))?;
+    let two = e.constant(&mut fixed, BabyBear::TWO);
     c.assert_zero_ext(e.lift(two));
     let last = c.column();
     c.assert_zero_ext(e.lift(last.next() + 1));
-    c.into_air()
+    c.into_air_with(fixed)
 }
 
 fn assertions(alloc: Global) -> Air {

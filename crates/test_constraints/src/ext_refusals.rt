@@ -2,7 +2,8 @@
 use crate::ext_shown::print_ext_shown;
 use p3_air::{
     AirError, BabyBear, BinomialExtensionField as Ext, Claim, Claimed, Draft, Expressions,
-    ExtClaimed, ExtConstraints, ExtDraft, ExtEntry, ExtExpressions, ExtStep, FlatExtAir,
+    ExtClaimed, ExtConstraints, ExtDraft, ExtEntry, ExtExpressions, ExtStep, Fixed, FlatExtAir,
+    Notes,
     SymbolicVariableExt,
 };
 use std::alloc::Global;
@@ -81,11 +82,20 @@ fn great_degree_under(alloc: Global) -> Air {
     c.into_air()
 }
 
+// A draft of an AIR with one column.
+fn empty_draft(alloc: Global) -> Draft<BabyBear> {
+    Draft {
+        notes: Notes::new(alloc, 1),
+        fixed: Fixed::new(alloc),
+        steps: Vec::new(alloc),
+    }
+}
+
 // A draft with one claim of a step over the extension, which it may have.
 fn draft_of(alloc: Global, step: ExtStep<BabyBear, Ext>, number: usize) -> Air {
-    let mut draft = ExtDraft::new(Draft::new(alloc, 1));
+    let mut draft = ExtDraft::new(empty_draft(alloc));
     let _first = draft.step(step);
-    draft.base.claim(Claim {
+    draft.base.notes.claim(Claim {
         claimed: Claimed::Extension(ExtClaimed::Zero(number)),
         condition: None,
         label: None,
@@ -99,14 +109,14 @@ fn column_at(offset: usize) -> ExtStep<BabyBear, Ext> {
 
 // A claim over an extension in a draft that has none.
 fn claim_without_extension(alloc: Global) -> Air {
-    let mut draft: Draft<BabyBear> = Draft::new(alloc, 1);
-    draft.claim(Claim {
+    let mut draft = empty_draft(alloc);
+    draft.notes.claim(Claim {
         claimed: Claimed::Extension(ExtClaimed::Equal(3, 4)),
         condition: None,
         label: None,
     });
     match draft.into_air() {
-        Ok(_) => ExtDraft::new(Draft::new(alloc, 1)).into_air(),
+        Ok(_) => ExtDraft::new(empty_draft(alloc)).into_air(),
         Err(error) => Err(error),
     }
 }

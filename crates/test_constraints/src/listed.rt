@@ -1,14 +1,14 @@
 //! The step that an expression's call wrote, found in the draft of constraints.
-use p3_air::{AirError, BabyBear, Constraints, Expressions, Step};
+use p3_air::{AirError, BabyBear, Constraints, Expressions, Fixed, Step};
 use std::alloc::Global;
 use std::io;
 
 /// The step of a sum of two columns.
 fn step_of_a_sum(alloc: Global) -> Result<Option<Step>, AirError> {
     let e = Expressions::new(alloc);
-    let c: Constraints<BabyBear> = Constraints::new(alloc, &e, 2);
+    let c = Constraints::new(alloc, &e, 2);
     let sum = e.current(0) + e.current(1);
-    let (_draft, listing) = c.into_listed()?;
+    let (_draft, listing) = c.into_listed(Fixed::<BabyBear>::new(alloc))?;
     Ok(listing.get(sum))
 }
 

@@ -94,7 +94,7 @@ fn at<E: Copy>(made: &[E], place: usize) -> Option<E> {
 /// Makes the call with handles.
 fn write<'a>(
     e: &'a Expressions,
-    c: &mut Constraints<'a, BabyBear>,
+    c: &mut Constraints<'a>,
     made: &[Expr<'a>],
     call: Call,
 ) -> Option<Expr<'a>> {
@@ -115,7 +115,7 @@ fn write<'a>(
 }
 
 // Makes a call that asserts; it makes no expression.
-fn claim<'a>(c: &mut Constraints<'a, BabyBear>, made: &[Expr<'a>], call: Call) -> Option<Expr<'a>> {
+fn claim<'a>(c: &mut Constraints<'a>, made: &[Expr<'a>], call: Call) -> Option<Expr<'a>> {
     match call {
         Call::AssertZero(x) => c.assert_zero(at(made, x)?),
         Call::AssertBool(x) => c.assert_bool(at(made, x)?),
@@ -135,7 +135,7 @@ fn claim<'a>(c: &mut Constraints<'a, BabyBear>, made: &[Expr<'a>], call: Call) -
 // Makes the calls with handles.
 fn write_all<'a>(
     e: &'a Expressions,
-    c: &mut Constraints<'a, BabyBear>,
+    c: &mut Constraints<'a>,
     alloc: Global,
     calls: &[Call],
 ) -> Result<(), AirError> {

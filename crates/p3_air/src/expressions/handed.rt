@@ -1,5 +1,5 @@
 //! What expressions hand out.
-ghost use Rattle.std.specs.Prelude.{◌≡◌, None, IfOk, IsSomeAnd};
+ghost use Rattle.std.specs.Prelude.{◌≡◌, ◌∷◌, ◌++◌, [], length, None, IfOk, IfSome, IsSomeAnd};
 ghost use Rattle.air_core.specs.declared.variables.entry.BaseEntry.TheVariants.{Main, Preprocessed, Periodic, Public};
 ghost use Rattle.p3_air.specs.HandleView.{known};
 ghost use Rattle.p3_air.specs.HandleSteps.{Writes};
@@ -11,7 +11,8 @@ use crate::expressions::nodes::{Body, Expressions, Head};
 use crate::expressions::view::{Expr, Node};
 use crate::expressions::windows::{Table, Window};
 use air_core::{AirError, BaseEntry};
-use air_draft::Step;
+use air_draft::{Fixed, Step};
+use air_field::Field;
 use air_tape::listing::Listing as Listed;
 use air_tape::tape::Tape;
 use bumpalo::Bump;
@@ -211,10 +212,26 @@ impl Expressions {
         self.write(Step::Number(n))
     }
 
-    /// A constant of the field, by its place among the draft's constants.
-    pub fn constant_at(&self, place: usize) -> Expr<'_>
+    // A constant of the field, by its place among those that are fixed.
+    fn constant_at(&self, place: usize) -> Expr<'_>
         ensures { Writes self.now (Constant place) result.now }
     {
         self.write(Step::Constant(place))
+    }
+
+    /// A constant of the field, which is added to what the AIR fixes.
+    pub fn constant<'a, F: Field>(&'a self, fixed: &mut Fixed<F>, c: F) -> Expr<'a>
+        ensures step { Writes self.now (Constant (length fixed.old.constants.items)) result.now }
+        ensures added { IfSome (known result.now)
+            (λ _. fixed.new.constants.items ≡ fixed.old.constants.items ++ c ∷ []) }
+        ensures others { fixed.new ≡ record fixed.old { constants = fixed.new.constants } }
+    {
+        match fixed.constant(c) {
+            Ok(place) => self.constant_at(place),
+            Err(_) => {
+                self.fail(AirError::Memory);
+                self.none()
+            }
+        }
     }
 }

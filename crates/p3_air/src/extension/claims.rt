@@ -14,20 +14,20 @@ use std::ops::{Deref, DerefMut};
 /// x is zero assert that (x b) a is zero.
 #[derive(Drop)]
 pub struct ExtClaims<'c, 'a, F: Field, EF: ExtensionField<F>> {
-    pub(crate) claims: Claims<'c, 'a, F>,
+    pub(crate) claims: Claims<'c, 'a>,
     pub(crate) expressions: &'a ExtExpressions<F, EF>,
 }
 
 impl<'c, 'a, F: Field, EF: ExtensionField<F>> Deref for ExtClaims<'c, 'a, F, EF> {
-    type Target = Claims<'c, 'a, F>;
+    type Target = Claims<'c, 'a>;
 
-    fn deref(&self) -> &Claims<'c, 'a, F> {
+    fn deref(&self) -> &Claims<'c, 'a> {
         &self.claims
     }
 }
 
 impl<'c, 'a, F: Field, EF: ExtensionField<F>> DerefMut for ExtClaims<'c, 'a, F, EF> {
-    fn deref_mut(&mut self) -> &mut Claims<'c, 'a, F> {
+    fn deref_mut(&mut self) -> &mut Claims<'c, 'a> {
         &mut self.claims
     }
 }

@@ -7,8 +7,8 @@ use crate::handles::constraints::Constraints;
 use air_audit::FlatExtAir;
 use air_core::AirError;
 use air_core::boundary::BoundaryEnd;
-use air_draft::ExtDraft;
-use air_field::{ExtensionField, Field, RowMajorMatrix};
+use air_draft::{ExtDraft, Fixed};
+use air_field::{ExtensionField, Field};
 use std::alloc::Global;
 use std::ops::{Deref, DerefMut};
 
@@ -18,20 +18,20 @@ use std::ops::{Deref, DerefMut};
 /// Nothing is refused while it is written: what goes wrong first is kept, and [`ExtConstraints::into_air`] answers it.
 #[derive(Drop)]
 pub struct ExtConstraints<'a, F: Field, EF: ExtensionField<F>> {
-    base: Constraints<'a, F>,
+    base: Constraints<'a>,
     expressions: &'a ExtExpressions<F, EF>,
 }
 
 impl<'a, F: Field, EF: ExtensionField<F>> Deref for ExtConstraints<'a, F, EF> {
-    type Target = Constraints<'a, F>;
+    type Target = Constraints<'a>;
 
-    fn deref(&self) -> &Constraints<'a, F> {
+    fn deref(&self) -> &Constraints<'a> {
         &self.base
     }
 }
 
 impl<'a, F: Field, EF: ExtensionField<F>> DerefMut for ExtConstraints<'a, F, EF> {
-    fn deref_mut(&mut self) -> &mut Constraints<'a, F> {
+    fn deref_mut(&mut self) -> &mut Constraints<'a> {
         &mut self.base
     }
 }
@@ -51,33 +51,6 @@ impl<'a, F: Field, EF: ExtensionField<F>> ExtConstraints<'a, F, EF> {
         let ExtConstraints { base, expressions } = self;
         ExtConstraints {
             base: base.with_public_values(count),
-            expressions,
-        }
-    }
-
-    /// With a preprocessed trace. Its height must be that of the main trace when it is audited.
-    pub fn with_preprocessed(self, table: RowMajorMatrix<F>) -> Self {
-        let ExtConstraints { base, expressions } = self;
-        ExtConstraints {
-            base: base.with_preprocessed(table),
-            expressions,
-        }
-    }
-
-    /// With one more periodic column: the values of one period.
-    pub fn with_periodic(self, column: Vec<F>) -> Self {
-        let ExtConstraints { base, expressions } = self;
-        ExtConstraints {
-            base: base.with_periodic(column),
-            expressions,
-        }
-    }
-
-    /// With one more periodic column, of whole numbers: the values of one period.
-    pub fn with_periodic_numbers(self, numbers: &[u64]) -> Self {
-        let ExtConstraints { base, expressions } = self;
-        ExtConstraints {
-            base: base.with_periodic_numbers(numbers),
             expressions,
         }
     }
@@ -181,13 +154,13 @@ impl<'a, F: Field, EF: ExtensionField<F>> ExtConstraints<'a, F, EF> {
         }
     }
 
-    /// What was written down.
-    pub fn into_draft(self) -> ExtDraft<F, EF> {
+    /// What was written down, with what the AIR fixes.
+    pub fn into_draft(self, fixed: Fixed<F>) -> ExtDraft<F, EF> {
         let ExtConstraints { base, expressions } = self;
-        let mut draft = ExtDraft::new(base.into_draft());
+        let mut draft = ExtDraft::new(base.into_draft(fixed));
         match expressions.ext_steps(*draft.steps.allocator()) {
             Ok(steps) => draft.steps = steps,
-            Err(_) => draft.base.fail(AirError::Memory),
+            Err(_) => draft.base.notes.fail(AirError::Memory),
         }
         draft
     }
@@ -196,6 +169,12 @@ impl<'a, F: Field, EF: ExtensionField<F>> ExtConstraints<'a, F, EF> {
     /// an expression of others (`ForeignExpression`), a degree past `usize` (`DegreeOverflow`). An entry that isn't there is
     /// refused where the AIR is recorded or checked.
     pub fn into_air(self) -> Result<FlatExtAir<F, EF>, AirError> {
-        self.into_draft().into_air()
+        let fixed = Fixed::new(*self.base.notes.claims.allocator());
+        self.into_air_with(fixed)
+    }
+
+    /// The AIR, with a preprocessed trace, periodic columns and constants; see [`ExtConstraints::into_air`].
+    pub fn into_air_with(self, fixed: Fixed<F>) -> Result<FlatExtAir<F, EF>, AirError> {
+        self.into_draft(fixed).into_air()
     }
 }

@@ -4,7 +4,6 @@ use crate::expressions::nodes::Expressions;
 use crate::expressions::view::Expr;
 use crate::handles::claims::Claims;
 use crate::handles::constraints::Constraints;
-use air_field::Field;
 
 impl Expressions {
     /// The sum of 2^i times the i-th expression; 0 for none. Of bits it is the number that they pack, the lowest first.
@@ -35,14 +34,14 @@ impl Expressions {
     }
 }
 
-impl<'a, F: Field> Constraints<'a, F> {
+impl<'a> Constraints<'a> {
     /// Claims that each of `bits` is zero or one, and that `x` is the number that they pack, the lowest first.
     pub fn assert_bits(&mut self, x: Expr<'a>, bits: &[Expr<'a>]) {
         self.everywhere().assert_bits(x, bits);
     }
 }
 
-impl<'c, 'a, F: Field> Claims<'c, 'a, F> {
+impl<'c, 'a> Claims<'c, 'a> {
     /// Claims that each of `bits` is zero or one, and that `x` is the number that they pack, the lowest first. So x is
     /// below 2 to the number of bits, in a prime field of a greater characteristic.
     pub fn assert_bits(&mut self, x: Expr<'a>, bits: &[Expr<'a>]) {

@@ -1,7 +1,6 @@
 //! Sums and xors of words of 32 bits. A word is two limbs of 16 bits, the lower one first.
 use crate::expressions::view::Expr;
 use crate::handles::claims::Claims;
-use air_field::Field;
 
 /// A word of 32 bits: its lower and its upper 16 bits.
 pub type Word<'a> = [Expr<'a>; 2];
@@ -16,7 +15,7 @@ fn carries<'a>(x: Expr<'a>, n: u64, two: bool) -> Expr<'a> {
     }
 }
 
-impl<'c, 'a, F: Field> Claims<'c, 'a, F> {
+impl<'c, 'a> Claims<'c, 'a> {
     // Claims that a difference of words is zero modulo 2^32, with one carry or two.
     fn assert_carried(&mut self, low: Expr<'a>, high: Expr<'a>, two: bool) {
         let whole = low + high * 65536;

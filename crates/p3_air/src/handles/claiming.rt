@@ -1,4 +1,4 @@
-//! What claims write into the draft of constraints.
+//! What claims note.
 ghost use Rattle.std.specs.Prelude.{◌≡◌, IsSome};
 ghost use Rattle.air_core.specs.Texts.{element_text};
 ghost use Rattle.air_draft.specs.declared.claim.Claimed.TheVariants.{Zero, One, Bool, Equal};
@@ -9,17 +9,16 @@ use crate::expressions::view::Expr;
 use crate::handles::constraints::Constraints;
 use air_core::AirError;
 use air_draft::{Claim, Claimed, Factor};
-use air_field::Field;
 
-impl<'a, F: Field> Constraints<'a, F> {
+impl<'a> Constraints<'a> {
     /// Notes a fault, if it is the first, also among those of the expressions.
     pub(crate) fn fail(&mut self, error: AirError)
-        ensures noted { IsSome self.new.draft.fault }
+        ensures noted { IsSome self.new.notes.fault }
         ensures others { OnlyFault self.old self.new }
     {
         match self.expressions.fault() {
-            Some(first) => self.draft.fail(first),
-            None => self.draft.fail(error),
+            Some(first) => self.notes.fail(first),
+            None => self.notes.fail(error),
         }
     }
 
@@ -28,7 +27,7 @@ impl<'a, F: Field> Constraints<'a, F> {
         ensures { AddsClaim (record { claimed = claimed; condition = condition; label = label })
             self.old self.new }
     {
-        self.draft.claim(Claim {
+        self.notes.claim(Claim {
             claimed,
             condition,
             label,
@@ -79,7 +78,7 @@ impl<'a, F: Field> Constraints<'a, F> {
     pub(crate) fn under(&mut self, outer: Option<usize>, factor: Factor) -> Option<usize>
         ensures { AddsCondition factor outer result self.old self.new }
     {
-        Some(self.draft.condition(outer, factor))
+        Some(self.notes.condition(outer, factor))
     }
 
     /// Where `x` isn't zero.
@@ -112,7 +111,7 @@ impl<'a, F: Field> Constraints<'a, F> {
     pub(crate) fn label(&mut self, outer: Option<usize>, text: &str) -> Option<usize>
         ensures { AddsLabel text.now outer result self.old self.new }
     {
-        Some(self.draft.label(outer, text))
+        Some(self.notes.label(outer, text))
     }
 
     /// Writes the label of an index down, under an outer one; without one it is none.
@@ -120,7 +119,7 @@ impl<'a, F: Field> Constraints<'a, F> {
         ensures { AddsIndexLabel (element_text index) outer result self.old self.new }
     {
         match outer {
-            Some(_) => Some(self.draft.index_label(outer, index)),
+            Some(_) => Some(self.notes.index_label(outer, index)),
             None => None,
         }
     }

@@ -9,20 +9,19 @@ use crate::expressions::view::Expr;
 use crate::handles::constraints::Constraints;
 use air_core::AirError;
 use air_draft::{Claimed, Factor};
-use air_field::Field;
 
 /// Where claims are made: under conditions and a label, if there are any. It may be used for several claims; a further
 /// condition or label takes it. While it is used, the constraints are borrowed.
 ///
 /// A claim under conditions is asserted times their factors: `when(a).when(b).assert_zero(x)` asserts that a (b x) is
 /// zero.
-pub struct Claims<'c, 'a, F: Field> {
-    pub(crate) c: &'c mut Constraints<'a, F>,
+pub struct Claims<'c, 'a> {
+    pub(crate) c: &'c mut Constraints<'a>,
     pub(crate) condition: Option<usize>,
     pub(crate) label: Option<usize>,
 }
 
-impl<F: Field> Drop for Claims<'_, '_, F> {
+impl Drop for Claims<'_, '_> {
     fn drop(self)
         ensures { self.exit.0.now ≡ self.entry.c.now }
     {
@@ -34,7 +33,7 @@ impl<F: Field> Drop for Claims<'_, '_, F> {
     }
 }
 
-impl<'c, 'a, F: Field> Claims<'c, 'a, F> {
+impl<'c, 'a> Claims<'c, 'a> {
     /// Claims that `x` is zero.
     pub fn assert_zero(&mut self, x: Expr)
         ensures same { self.new.c.ghost_name ≡ self.old.c.ghost_name }
@@ -113,7 +112,7 @@ impl<'c, 'a, F: Field> Claims<'c, 'a, F> {
     }
 
     /// Where the condition isn't zero.
-    pub fn when(self, condition: Expr) -> Claims<'c, 'a, F>
+    pub fn when(self, condition: Expr) -> Claims<'c, 'a>
         ensures same { result.c.ghost_name ≡ self.entry.c.ghost_name }
         ensures place { result.label ≡ self.entry.label }
         ensures adds { ConditionOf Nonzero condition.now self.entry.condition result.condition self.entry.c.now
@@ -133,7 +132,7 @@ impl<'c, 'a, F: Field> Claims<'c, 'a, F> {
     }
 
     /// Where both differ.
-    pub fn when_ne(self, x: Expr, y: Expr) -> Claims<'c, 'a, F>
+    pub fn when_ne(self, x: Expr, y: Expr) -> Claims<'c, 'a>
         ensures same { result.c.ghost_name ≡ self.entry.c.ghost_name }
         ensures place { result.label ≡ self.entry.label }
         ensures adds { ConditionOfBoth Different x.now y.now self.entry.condition result.condition
@@ -153,7 +152,7 @@ impl<'c, 'a, F: Field> Claims<'c, 'a, F> {
     }
 
     /// On the first row.
-    pub fn when_first_row(self) -> Claims<'c, 'a, F>
+    pub fn when_first_row(self) -> Claims<'c, 'a>
         ensures same { result.c.ghost_name ≡ self.entry.c.ghost_name }
         ensures place { result.label ≡ self.entry.label }
         ensures adds { AddsCondition FirstRow self.entry.condition result.condition self.entry.c.now result.c.now }
@@ -172,7 +171,7 @@ impl<'c, 'a, F: Field> Claims<'c, 'a, F> {
     }
 
     /// On the last row.
-    pub fn when_last_row(self) -> Claims<'c, 'a, F>
+    pub fn when_last_row(self) -> Claims<'c, 'a>
         ensures same { result.c.ghost_name ≡ self.entry.c.ghost_name }
         ensures place { result.label ≡ self.entry.label }
         ensures adds { AddsCondition LastRow self.entry.condition result.condition self.entry.c.now result.c.now }
@@ -191,7 +190,7 @@ impl<'c, 'a, F: Field> Claims<'c, 'a, F> {
     }
 
     /// On all rows but the last.
-    pub fn when_transition(self) -> Claims<'c, 'a, F>
+    pub fn when_transition(self) -> Claims<'c, 'a>
         ensures same { result.c.ghost_name ≡ self.entry.c.ghost_name }
         ensures place { result.label ≡ self.entry.label }
         ensures adds { AddsCondition Transition self.entry.condition result.condition self.entry.c.now result.c.now }
@@ -210,7 +209,7 @@ impl<'c, 'a, F: Field> Claims<'c, 'a, F> {
     }
 
     /// Under a label. Under a label that is there already, it is `outer::label`. An empty label is none.
-    pub fn named(self, label: &str) -> Claims<'c, 'a, F>
+    pub fn named(self, label: &str) -> Claims<'c, 'a>
         ensures same { result.c.ghost_name ≡ self.entry.c.ghost_name }
         ensures place { result.condition ≡ self.entry.condition }
         ensures adds { AddsLabel label.now self.entry.label result.label self.entry.c.now result.c.now }
@@ -229,7 +228,7 @@ impl<'c, 'a, F: Field> Claims<'c, 'a, F> {
     }
 
     /// Under the label `label::[index]`, where there is a label; without one nothing changes.
-    pub fn at(self, index: usize) -> Claims<'c, 'a, F>
+    pub fn at(self, index: usize) -> Claims<'c, 'a>
         ensures same { result.c.ghost_name ≡ self.entry.c.ghost_name }
         ensures place { result.condition ≡ self.entry.condition }
         ensures adds { AddsIndexLabel (element_text index) self.entry.label result.label self.entry.c.now

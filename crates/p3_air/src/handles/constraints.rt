@@ -1,11 +1,8 @@
 //! Constraints in the making.
-ghost use Rattle.std.specs.Prelude.{◌≡◌, ◌≢◌, ℕ, [], length, map, None, Some, IfOk, IfErr};
-ghost use Rattle.air_field.specs.Ring.{image};
-ghost use Rattle.air_draft.specs.DraftEntries.{AddsColumns, AddsPeriodic, AddsBoundary, WritesConstant};
+ghost use Rattle.std.specs.Prelude.{◌≡◌, [], None};
+ghost use Rattle.air_draft.specs.DraftEntries.{AddsColumns, AddsBoundary};
 ghost use Rattle.air_draft.specs.declared.claim.Claimed.TheVariants.{Zero, One, Bool, Equal};
 ghost use Rattle.air_draft.specs.declared.claim.Factor.TheVariants.{FirstRow, LastRow, Transition, Nonzero, Different};
-ghost use Rattle.air_draft.specs.declared.step.Step.TheVariants.{Constant};
-ghost use Rattle.p3_air.specs.HandleSteps.{Writes};
 ghost use Rattle.p3_air.specs.HandleClaims.{ClaimsOf, ClaimsOfBoth, AddsCondition, ConditionOf, ConditionOfBoth, AddsLabel};
 
 use crate::expressions::columns::{Column, Columns};
@@ -14,80 +11,43 @@ use crate::expressions::view::Expr;
 use crate::handles::claims::Claims;
 use air_core::AirError;
 use air_core::boundary::{BoundaryEnd, BoundaryPublic};
-use air_draft::{Draft, Factor};
-use air_field::{Field, RowMajorMatrix};
+use air_draft::{Factor, Notes};
 use std::alloc::Global;
 
 /// Constraints in the making: it takes claims of expressions, and makes the AIR in the end.
 ///
 /// Nothing is refused while it is written: what goes wrong first is kept, and [`Constraints::into_air`] answers it.
 #[derive(Drop)]
-pub struct Constraints<'a, F: Field> {
+pub struct Constraints<'a> {
     pub(crate) expressions: &'a Expressions,
-    pub(crate) draft: Draft<F>,
+    pub(crate) notes: Notes,
 }
 
-impl<'a, F: Field> Constraints<'a, F> {
+impl<'a> Constraints<'a> {
     /// No constraints yet, of a main trace of `width` columns. ([`Constraints::column`] adds more.) What is claimed are
     /// expressions of these.
     pub fn new(alloc: Global, expressions: &'a Expressions, width: usize) -> Self
         ensures expressions { result.expressions.now ≡ expressions.now }
-        ensures width { result.draft.width ≡ width }
-        ensures public_values { result.draft.num_public_values ≡ 0 }
-        ensures preprocessed { result.draft.preprocessed ≡ None }
-        ensures periodic { result.draft.periodic.items ≡ [] }
-        ensures boundary { result.draft.boundary.items ≡ [] }
-        ensures constants { result.draft.constants.items ≡ [] }
-        ensures conditions { result.draft.conditions.items ≡ [] }
-        ensures labels { result.draft.labels.items ≡ [] }
-        ensures claims { result.draft.claims.items ≡ [] }
-        ensures fault { result.draft.fault ≡ None }
+        ensures width { result.notes.width ≡ width }
+        ensures public_values { result.notes.num_public_values ≡ 0 }
+        ensures boundary { result.notes.boundary.items ≡ [] }
+        ensures conditions { result.notes.conditions.items ≡ [] }
+        ensures labels { result.notes.labels.items ≡ [] }
+        ensures claims { result.notes.claims.items ≡ [] }
+        ensures fault { result.notes.fault ≡ None }
     {
         Constraints {
             expressions,
-            draft: Draft::new(alloc, width),
+            notes: Notes::new(alloc, width),
         }
     }
 
     /// With this number of public values.
     pub fn with_public_values(self, count: usize) -> Self
-        ensures { result ≡ record self.entry { draft = record self.entry.draft { num_public_values = count } } }
+        ensures { result ≡ record self.entry { notes = record self.entry.notes { num_public_values = count } } }
     {
         let mut constraints = self;
-        constraints.draft.num_public_values = count;
-        constraints
-    }
-
-    /// With a preprocessed trace. Its height must be that of the main trace when it is audited.
-    pub fn with_preprocessed(self, table: RowMajorMatrix<F>) -> Self
-        ensures { result ≡ record self.entry { draft = record self.entry.draft { preprocessed = Some table } } }
-    {
-        let Constraints {
-            expressions,
-            mut draft,
-        } = self;
-        draft.preprocessed = Some(table);
-        Constraints { expressions, draft }
-    }
-
-    /// With one more periodic column: the values of one period.
-    pub fn with_periodic(self, column: Vec<F>) -> Self
-        ensures expressions { result.expressions ≡ self.entry.expressions }
-        ensures added { AddsPeriodic (λ v. v ≡ column) self.entry.draft result.draft }
-    {
-        let mut constraints = self;
-        constraints.draft.add_periodic(column);
-        constraints
-    }
-
-    /// With one more periodic column, of whole numbers: the values of one period.
-    pub fn with_periodic_numbers(self, numbers: &[u64]) -> Self
-        ensures expressions { result.expressions ≡ self.entry.expressions }
-        ensures added { AddsPeriodic (λ v. v.items ≡ map (image F.ring) numbers.now) self.entry.draft
-            result.draft }
-    {
-        let mut constraints = self;
-        constraints.draft.add_periodic_numbers(numbers);
+        constraints.notes.num_public_values = count;
         constraints
     }
 
@@ -95,46 +55,35 @@ impl<'a, F: Field> Constraints<'a, F> {
     pub fn with_boundary(self, column: usize, end: BoundaryEnd, public_value: usize) -> Self
         ensures expressions { result.expressions ≡ self.entry.expressions }
         ensures added { AddsBoundary
-            (record { column = column; end = end; public_value = public_value }) self.entry.draft
-            result.draft }
+            (record { column = column; end = end; public_value = public_value }) self.entry.notes
+            result.notes }
     {
         let mut constraints = self;
         let cell = BoundaryPublic::new(column, end, public_value);
-        constraints.draft.add_boundary(cell);
+        constraints.notes.add_boundary(cell);
         constraints
     }
 
     /// Adds a column to the main trace.
     pub fn column(&mut self) -> Column<'a>
         ensures column { (result.expressions.now ≡ self.old.expressions.now)
-            × (result.index ≡ self.old.draft.width) }
+            × (result.index ≡ self.old.notes.width) }
         ensures same { self.new.expressions ≡ self.old.expressions }
-        ensures added { AddsColumns 1 self.old.draft self.new.draft }
+        ensures added { AddsColumns 1 self.old.notes self.new.notes }
     {
-        let index = self.draft.columns(1);
+        let index = self.notes.columns(1);
         Column::new(self.expressions, index)
     }
 
     /// Adds columns to the main trace, which lie side by side.
     pub fn columns(&mut self, count: usize) -> Columns<'a>
         ensures columns { (result.expressions.now ≡ self.old.expressions.now)
-            × (result.first ≡ self.old.draft.width) × (result.count ≡ count) }
+            × (result.first ≡ self.old.notes.width) × (result.count ≡ count) }
         ensures same { self.new.expressions ≡ self.old.expressions }
-        ensures added { AddsColumns count self.old.draft self.new.draft }
+        ensures added { AddsColumns count self.old.notes self.new.notes }
     {
-        let first = self.draft.columns(count);
+        let first = self.notes.columns(count);
         Columns::new(self.expressions, first, count)
-    }
-
-    /// A constant of the field.
-    pub fn constant(&mut self, c: F) -> Expr<'a>
-        ensures step { Writes self.old.expressions.now (Constant (length self.old.draft.constants.items))
-            result.now }
-        ensures same { self.new.expressions ≡ self.old.expressions }
-        ensures written { WritesConstant c self.old.draft self.new.draft }
-    {
-        let place = self.draft.constant(c);
-        self.expressions.constant_at(place)
     }
 
     /// Claims that `x` is zero.
@@ -181,7 +130,7 @@ impl<'a, F: Field> Constraints<'a, F> {
     }
 
     /// Where claims hold on every row, without a label.
-    pub fn everywhere(&mut self) -> Claims<'_, 'a, F>
+    pub fn everywhere(&mut self) -> Claims<'_, 'a>
         ensures same { result.c.ghost_name ≡ self.entry.ghost_name }
         ensures place { (result.condition ≡ None) × (result.label ≡ None) }
         ensures adds { result.c.now ≡ self.old }
@@ -194,7 +143,7 @@ impl<'a, F: Field> Constraints<'a, F> {
     }
 
     /// Where the condition isn't zero.
-    pub fn when(&mut self, condition: Expr) -> Claims<'_, 'a, F>
+    pub fn when(&mut self, condition: Expr) -> Claims<'_, 'a>
         ensures same { result.c.ghost_name ≡ self.entry.ghost_name }
         ensures place { result.label ≡ None }
         ensures adds { ConditionOf Nonzero condition.now None result.condition self.old result.c.now }
@@ -208,7 +157,7 @@ impl<'a, F: Field> Constraints<'a, F> {
     }
 
     /// Where both differ.
-    pub fn when_ne(&mut self, x: Expr, y: Expr) -> Claims<'_, 'a, F>
+    pub fn when_ne(&mut self, x: Expr, y: Expr) -> Claims<'_, 'a>
         ensures same { result.c.ghost_name ≡ self.entry.ghost_name }
         ensures place { result.label ≡ None }
         ensures adds { ConditionOfBoth Different x.now y.now None result.condition self.old result.c.now }
@@ -222,7 +171,7 @@ impl<'a, F: Field> Constraints<'a, F> {
     }
 
     /// On the first row.
-    pub fn when_first_row(&mut self) -> Claims<'_, 'a, F>
+    pub fn when_first_row(&mut self) -> Claims<'_, 'a>
         ensures same { result.c.ghost_name ≡ self.entry.ghost_name }
         ensures place { result.label ≡ None }
         ensures adds { AddsCondition FirstRow None result.condition self.old result.c.now }
@@ -236,7 +185,7 @@ impl<'a, F: Field> Constraints<'a, F> {
     }
 
     /// On the last row.
-    pub fn when_last_row(&mut self) -> Claims<'_, 'a, F>
+    pub fn when_last_row(&mut self) -> Claims<'_, 'a>
         ensures same { result.c.ghost_name ≡ self.entry.ghost_name }
         ensures place { result.label ≡ None }
         ensures adds { AddsCondition LastRow None result.condition self.old result.c.now }
@@ -250,7 +199,7 @@ impl<'a, F: Field> Constraints<'a, F> {
     }
 
     /// On all rows but the last.
-    pub fn when_transition(&mut self) -> Claims<'_, 'a, F>
+    pub fn when_transition(&mut self) -> Claims<'_, 'a>
         ensures same { result.c.ghost_name ≡ self.entry.ghost_name }
         ensures place { result.label ≡ None }
         ensures adds { AddsCondition Transition None result.condition self.old result.c.now }
@@ -264,7 +213,7 @@ impl<'a, F: Field> Constraints<'a, F> {
     }
 
     /// Under a label.
-    pub fn named(&mut self, label: &str) -> Claims<'_, 'a, F>
+    pub fn named(&mut self, label: &str) -> Claims<'_, 'a>
         ensures same { result.c.ghost_name ≡ self.entry.ghost_name }
         ensures place { result.condition ≡ None }
         ensures adds { AddsLabel label.now None result.label self.old result.c.now }

@@ -7,7 +7,7 @@ use Rattle.p3_air.proofs.DraftChanges.{some_map}
 use Rattle.p3_air.proofs.handles.constraints.Constraints.nonzero.Goals as goal
 
 pub returns-in-Ok : goal.returns-in-Ok
-returns-in-Ok g c = let a = c.args.self.now.draft in let b = c.under.new.self.draft in (
+returns-in-Ok c = let a = c.args.self.now.notes in let b = c.under.new.self.notes in (
   c.under.ensures.0,
   λ none. some_map (known c.args.x.now)
       (λ k e. subst (λ (n : ℕ). (a.fault ≡ None) × (c.under.result ≡ Some (length a.conditions.items)) × OneMore (λ v. v.items ≡ Nonzero n ∷ factors_of a.conditions.items c.args.outer) a.conditions.items b.conditions.items) e (c.under.ensures.1 none)) c.in-Ok.ensures,

@@ -1,6 +1,6 @@
 use Rattle.std.proofs.Common.{rules, refl}
-use Rattle.air_draft.proofs.draft.Draft.label.Goals as goal
+use Rattle.air_draft.proofs.notes.Notes.label.Goals as goal
 
 pub returns-else-is_err-clause-written : goal.returns-else-is_err-clause-written
-returns-else-is_err-clause-written g c =
+returns-else-is_err-clause-written c =
     record { labels = λ _. (c.in-Ok.label, c.in-Ok.ensures, search rules); fault = search rules; others = refl }
