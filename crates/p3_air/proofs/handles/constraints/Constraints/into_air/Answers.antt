@@ -1,17 +1,18 @@
-use Rattle.std.proofs.Common.{ap, ◌∙◌}
-use Rattle.air_draft.specs.Drafts.{beside_of, claim_labels}
-use Rattle.air_draft.specs.declared.draft.Draft.{Draft}
+use Rattle.std.proofs.Common.{subst, sym}
+use Rattle.p3_air.specs.HandleDrafts.{FixesNothing}
 use Rattle.p3_air.proofs.DraftChanges.{ok_map, err_map}
 use Rattle.p3_air.proofs.handles.constraints.Constraints.into_air.Goals as goal
 
 pub returns-clause-records : goal.returns-clause-records
-returns-clause-records g c = ok_map c.into_air.result c.into_air.ensures.faultless (λ a none records. (c.into_draft.result, c.into_draft.ensures, none, records)) c.into_air.ensures.records
+returns-clause-records g c = let h = c.into_air_with.ensures.records in let n = c.new.ensures in
+    ok_map c.into_air_with.result h
+    (λ a _ r. (r.0, (subst FixesNothing (sym r.1.0.0) (n.preprocessed, n.periodic, n.constants), r.1.0.1), r.1.1)) h
 
 pub returns-clause-beside : goal.returns-clause-beside
-returns-clause-beside g c = ok_map c.into_air.result c.into_air.ensures.faultless (λ a none e. e ∙ ap beside_of c.into_draft.ensures.0) c.into_air.ensures.beside
-
-pub returns-clause-labels : goal.returns-clause-labels
-returns-clause-labels g c = ok_map c.into_air.result c.into_air.ensures.faultless (λ a none e. e ∙ ap (λ (d : Draft g.row.F.Denot). claim_labels d.labels.items d.claims.items) c.into_draft.ensures.0) c.into_air.ensures.labels
+returns-clause-beside g c = let h = c.into_air_with.ensures.beside in let n = c.new.ensures in
+    ok_map c.into_air_with.result h (λ a _ e. (c.new.result, (n.preprocessed, n.periodic, n.constants), e)) h
 
 pub returns-clause-refused : goal.returns-clause-refused
-returns-clause-refused g c = err_map c.into_air.result (λ e refuses. (c.into_draft.result, c.into_draft.ensures, refuses)) c.into_air.ensures.refused
+returns-clause-refused g c = let n = c.new.ensures in
+    err_map c.into_air_with.result
+    (λ e r. (r.0, (subst FixesNothing (sym r.1.0.0) (n.preprocessed, n.periodic, n.constants), r.1.0.1), r.1.1)) c.into_air_with.ensures.refused
