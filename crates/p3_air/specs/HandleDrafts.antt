@@ -12,7 +12,8 @@ use Rattle.p3_air.specs.declared.handles.constraints.Constraints.{Constraints}
 abbrev pub ListsTape : List Named → List Step → Type 0
 ListsTape tape steps = (shown : List (Where Step)) × Told tape steps shown
 
--- a draft of what was written, with the steps of the expressions, which fixes what P says; where there is a fault, steps may be missing
+-- a draft of these notes, with the steps of the expressions, which fixes something of which P holds; where there is a fault, steps may
+-- be missing
 abbrev pub IsDraftWith : {F : Type 0} → (Fixed F → Type 0) → Constraints → Draft F → Type 0
 IsDraftWith P c d = P d.fixed × (d.notes ≡ record c.notes { fault = d.notes.fault })
     × (d.notes.fault ≡ None → (c.notes.fault ≡ None) × ListsTape c.expressions.now.steps d.steps.items)

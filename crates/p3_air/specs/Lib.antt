@@ -168,7 +168,7 @@ pub use Rattle.air_audit.specs.PermutationRows
 pub use Rattle.air_audit.specs.laws
 pub use Rattle.air_audit.specs.ExtPlans
 pub use Rattle.air_audit.specs.FlatExtAirs
--- what is written down in code alone, and what the AIR of it declares
+-- code-only AIRs: what their calls write, and what the AIR declares
 pub use Rattle.air_draft.specs.DraftTerms
 pub use Rattle.air_draft.specs.ExtDraftTerms
 pub use Rattle.air_draft.specs.DraftEntries

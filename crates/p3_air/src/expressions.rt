@@ -1,6 +1,6 @@
-//! Expressions: handles of steps, and what hands them out.
+//! Expressions: handles of steps, and the type that makes them.
 //!
-//! [`Expressions`](nodes::Expressions) hands out expressions ([`Expr`](view::Expr)), which are bare references. Each call
+//! [`Expressions`](nodes::Expressions) makes expressions ([`Expr`](view::Expr)), which are bare references. Each call
 //! writes one [`Step`](air_draft::Step), and its contract says which: `x + y` writes the sum of the steps of x and y.
 //! [`Expressions::listing`](nodes::Expressions::listing) gives all steps in order, and
 //! [`Listing::get`](listing::Listing::get) the step that an expression's call wrote.

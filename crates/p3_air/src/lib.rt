@@ -1,6 +1,6 @@
 //! The constraint crate: AIRs recorded as symbolic expressions, and evaluated on concrete rows.
 //!
-//! An AIR is written in code alone, with ordinary operators on handles, and `into_air` makes the AIR of it:
+//! A code-only AIR is written with ordinary operators on handles, and `into_air` makes the AIR:
 //!
 //!     fn counter(alloc: Global) -> Result<FlatAir<BabyBear>, AirError> {
 //!         let e = Expressions::new(alloc);
@@ -27,7 +27,7 @@
 //!
 //! | to | call | its promise |
 //! |---|---|---|
-//! | write an AIR in code alone | [`Expressions`], [`Constraints`] | each call writes its own entry; the AIR records them |
+//! | write a code-only AIR | [`Expressions`], [`Constraints`] | each call writes its own entry; the AIR records them |
 //! | the same over an extension | [`ExtExpressions`], [`ExtConstraints`] | the AIR records its draft; the calls themselves are tested |
 //! | write one that declares its list | [`author`], [`utils`], [`BaseAir`] | `eval` asserts just the declared list on each builder |
 //! | make a trace | [`trace_of_rows`], [`TraceRows`], [`with_bits`], [`word_with_bits`] | the rows and numbers that were given |

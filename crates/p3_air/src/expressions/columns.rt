@@ -32,14 +32,16 @@ impl<'a> Column<'a> {
 
     /// Its cell in the current row.
     pub fn current(self) -> Expr<'a>
-        ensures { Writes self.entry.expressions.now (Variable (Main 0) self.entry.index) result.now }
+        ensures { Writes self.entry.expressions.now (Variable (Main 0) self.entry.index)
+            result.now }
     {
         self.expressions.current(self.index)
     }
 
     /// Its cell in the next row; after the last row comes the first.
     pub fn next(self) -> Expr<'a>
-        ensures { Writes self.entry.expressions.now (Variable (Main 1) self.entry.index) result.now }
+        ensures { Writes self.entry.expressions.now (Variable (Main 1) self.entry.index)
+            result.now }
     {
         self.expressions.next(self.index)
     }

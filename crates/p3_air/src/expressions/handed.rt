@@ -1,4 +1,4 @@
-//! What expressions hand out.
+//! The calls that make expressions.
 ghost use Rattle.std.specs.Prelude.{◌≡◌, ◌∷◌, ◌++◌, [], length, None, IfOk, IfSome, IsSomeAnd};
 ghost use Rattle.air_core.specs.declared.variables.entry.BaseEntry.TheVariants.{Main, Preprocessed, Periodic, Public};
 ghost use Rattle.p3_air.specs.HandleView.{known};
@@ -68,7 +68,7 @@ impl Expressions {
         }
     }
 
-    /// Whether both are the same: what is marked here is marked there.
+    /// Whether both are the same: a mark that is set here is read there.
     pub(crate) fn is_same(&self, other: &Expressions) -> bool {
         self.mark.set(true);
         let same = other.mark.get();

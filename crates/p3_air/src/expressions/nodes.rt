@@ -15,7 +15,7 @@ pub struct Head {
     pub(crate) receipt: Option<Receipt<Step>>,
 }
 
-/// Expressions in the making: it hands them out. Each call writes one step.
+/// It makes expressions. Each call writes one step.
 ///
 /// Nothing is refused while steps are written: what goes wrong first is kept ([`Expressions::fault`]).
 #[derive(Drop)]

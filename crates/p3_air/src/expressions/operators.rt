@@ -108,7 +108,8 @@ impl<'a> Sub<&'a Node> for u64 {
 
 impl<'a> SubAssign<&'a Node> for &'a Node {
     fn sub_assign(&mut self, other: &'a Node)
-        ensures { Joins (λ x y. Difference (Earlier x) (Earlier y)) self.old.now other.now self.new.now }
+        ensures { Joins (λ x y. Difference (Earlier x) (Earlier y)) self.old.now other.now
+            self.new.now }
     {
         *self = *self - other;
     }
@@ -161,7 +162,8 @@ impl<'a> Mul<&'a Node> for u64 {
 
 impl<'a> MulAssign<&'a Node> for &'a Node {
     fn mul_assign(&mut self, other: &'a Node)
-        ensures { Joins (λ x y. Product (Earlier x) (Earlier y)) self.old.now other.now self.new.now }
+        ensures { Joins (λ x y. Product (Earlier x) (Earlier y)) self.old.now other.now
+            self.new.now }
     {
         *self = *self * other;
     }

@@ -1,4 +1,4 @@
-//! A node: what a `&` to a body or to a head of none points to, as a type without a lifetime.
+//! Nodes: what a `&` to a body, or to a head without a receipt, points to, as a type without a lifetime.
 ghost use Rattle.std.specs.Prelude.{◌≡◌, ◌≢◌, None, Some, Option, MatchOption};
 ghost use base.Fml.{ffalse};
 ghost use Rattle.p3_air.specs.declared.expressions.nodes.Body.{Body};
@@ -15,7 +15,7 @@ pub type Expr<'a> = &'a Node;
 
 /// What an expression points to: a step of some [`Expressions`](crate::Expressions). It exists only behind a `&`.
 ///
-/// A `&'a Node` is a `&'a Body<'a>`, or a `&'a Head` of none where memory ran out. So the type of an expression has no
+/// A `&'a Node` is a `&'a Body<'a>`, or, if memory ran out, a `&'a Head` without a receipt. So the type of an expression has no
 /// lifetime but that of the `&`.
 pub struct Node {
     head: Head,
@@ -40,7 +40,7 @@ impl Node {
         unsafe { &*node }
     }
 
-    /// The node of none.
+    /// The node without a step.
     pub(crate) fn lost<'a>(head: &'a Head) -> &'a Node
         requires { head.now.receipt ≡ None }
         ensures { result.now ≡ None }

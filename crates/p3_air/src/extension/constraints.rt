@@ -37,7 +37,7 @@ impl<'a, F: Field, EF: ExtensionField<F>> DerefMut for ExtConstraints<'a, F, EF>
 }
 
 impl<'a, F: Field, EF: ExtensionField<F>> ExtConstraints<'a, F, EF> {
-    /// No constraints yet, of a main trace of `width` columns. (`column` adds more.) What is claimed are expressions of
+    /// No constraints yet, of a main trace of `width` columns. (`column` adds more.) Claims are of expressions of
     /// these.
     pub fn new(alloc: Global, expressions: &'a ExtExpressions<F, EF>, width: usize) -> Self {
         ExtConstraints {
@@ -154,7 +154,7 @@ impl<'a, F: Field, EF: ExtensionField<F>> ExtConstraints<'a, F, EF> {
         }
     }
 
-    /// What was written down, with what the AIR fixes.
+    /// All that was written, with what the AIR fixes.
     pub fn into_draft(self, fixed: Fixed<F>) -> ExtDraft<F, EF> {
         let ExtConstraints { base, expressions } = self;
         let mut draft = ExtDraft::new(base.into_draft(fixed));
@@ -165,7 +165,7 @@ impl<'a, F: Field, EF: ExtensionField<F>> ExtConstraints<'a, F, EF> {
         draft
     }
 
-    /// The AIR that declares what was claimed, in order. It refuses what went wrong first while it was written: `Memory`,
+    /// The AIR that declares the claims, in order. It refuses what went wrong first while it was written: `Memory`,
     /// an expression of others (`ForeignExpression`), a degree past `usize` (`DegreeOverflow`). An entry that isn't there is
     /// refused where the AIR is recorded or checked.
     pub fn into_air(self) -> Result<FlatExtAir<F, EF>, AirError> {

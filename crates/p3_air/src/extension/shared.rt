@@ -12,7 +12,7 @@ use std::ops::Deref;
 /// The number of nothing.
 const NOTHING: usize = usize::MAX;
 
-/// Expressions in the making, over an extension too: it hands them out. All calls of [`Expressions`] are there.
+/// It makes expressions, over an extension too. It has all calls of [`Expressions`].
 #[derive(Drop)]
 pub struct ExtExpressions<F: Field, EF: ExtensionField<F>> {
     pub(crate) base: Expressions,

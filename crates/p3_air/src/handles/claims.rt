@@ -37,7 +37,8 @@ impl<'c, 'a> Claims<'c, 'a> {
     /// Claims that `x` is zero.
     pub fn assert_zero(&mut self, x: Expr)
         ensures same { self.new.c.ghost_name ≡ self.old.c.ghost_name }
-        ensures place { (self.new.condition ≡ self.old.condition) × (self.new.label ≡ self.old.label) }
+        ensures place { (self.new.condition ≡ self.old.condition) × (self.new.label ≡
+            self.old.label) }
         ensures claims { ClaimsOf Zero x.now self.old.condition self.old.label self.old.c.now
             self.new.c.now }
     {
@@ -47,7 +48,8 @@ impl<'c, 'a> Claims<'c, 'a> {
     /// Claims that `x` is one.
     pub fn assert_one(&mut self, x: Expr)
         ensures same { self.new.c.ghost_name ≡ self.old.c.ghost_name }
-        ensures place { (self.new.condition ≡ self.old.condition) × (self.new.label ≡ self.old.label) }
+        ensures place { (self.new.condition ≡ self.old.condition) × (self.new.label ≡
+            self.old.label) }
         ensures claims { ClaimsOf One x.now self.old.condition self.old.label self.old.c.now
             self.new.c.now }
     {
@@ -57,7 +59,8 @@ impl<'c, 'a> Claims<'c, 'a> {
     /// Claims that `x` is zero or one.
     pub fn assert_bool(&mut self, x: Expr)
         ensures same { self.new.c.ghost_name ≡ self.old.c.ghost_name }
-        ensures place { (self.new.condition ≡ self.old.condition) × (self.new.label ≡ self.old.label) }
+        ensures place { (self.new.condition ≡ self.old.condition) × (self.new.label ≡
+            self.old.label) }
         ensures claims { ClaimsOf Bool x.now self.old.condition self.old.label self.old.c.now
             self.new.c.now }
     {
@@ -67,7 +70,8 @@ impl<'c, 'a> Claims<'c, 'a> {
     /// Claims that both are equal.
     pub fn assert_eq(&mut self, x: Expr, y: Expr)
         ensures same { self.new.c.ghost_name ≡ self.old.c.ghost_name }
-        ensures place { (self.new.condition ≡ self.old.condition) × (self.new.label ≡ self.old.label) }
+        ensures place { (self.new.condition ≡ self.old.condition) × (self.new.label ≡
+            self.old.label) }
         ensures claims { ClaimsOfBoth Equal x.now y.now self.old.condition self.old.label
             self.old.c.now self.new.c.now }
     {
@@ -115,7 +119,8 @@ impl<'c, 'a> Claims<'c, 'a> {
     pub fn when(self, condition: Expr) -> Claims<'c, 'a>
         ensures same { result.c.ghost_name ≡ self.entry.c.ghost_name }
         ensures place { result.label ≡ self.entry.label }
-        ensures adds { ConditionOf Nonzero condition.now self.entry.condition result.condition self.entry.c.now
+        ensures adds { ConditionOf Nonzero condition.now self.entry.condition result.condition
+            self.entry.c.now
             result.c.now }
     {
         let Claims {
@@ -155,7 +160,8 @@ impl<'c, 'a> Claims<'c, 'a> {
     pub fn when_first_row(self) -> Claims<'c, 'a>
         ensures same { result.c.ghost_name ≡ self.entry.c.ghost_name }
         ensures place { result.label ≡ self.entry.label }
-        ensures adds { AddsCondition FirstRow self.entry.condition result.condition self.entry.c.now result.c.now }
+        ensures adds { AddsCondition FirstRow self.entry.condition result.condition
+            self.entry.c.now result.c.now }
     {
         let Claims {
             c,
@@ -174,7 +180,8 @@ impl<'c, 'a> Claims<'c, 'a> {
     pub fn when_last_row(self) -> Claims<'c, 'a>
         ensures same { result.c.ghost_name ≡ self.entry.c.ghost_name }
         ensures place { result.label ≡ self.entry.label }
-        ensures adds { AddsCondition LastRow self.entry.condition result.condition self.entry.c.now result.c.now }
+        ensures adds { AddsCondition LastRow self.entry.condition result.condition
+            self.entry.c.now result.c.now }
     {
         let Claims {
             c,
@@ -193,7 +200,8 @@ impl<'c, 'a> Claims<'c, 'a> {
     pub fn when_transition(self) -> Claims<'c, 'a>
         ensures same { result.c.ghost_name ≡ self.entry.c.ghost_name }
         ensures place { result.label ≡ self.entry.label }
-        ensures adds { AddsCondition Transition self.entry.condition result.condition self.entry.c.now result.c.now }
+        ensures adds { AddsCondition Transition self.entry.condition result.condition
+            self.entry.c.now result.c.now }
     {
         let Claims {
             c,
@@ -212,7 +220,8 @@ impl<'c, 'a> Claims<'c, 'a> {
     pub fn named(self, label: &str) -> Claims<'c, 'a>
         ensures same { result.c.ghost_name ≡ self.entry.c.ghost_name }
         ensures place { result.condition ≡ self.entry.condition }
-        ensures adds { AddsLabel label.now self.entry.label result.label self.entry.c.now result.c.now }
+        ensures adds { AddsLabel label.now self.entry.label result.label self.entry.c.now
+            result.c.now }
     {
         let Claims {
             c,
@@ -231,7 +240,8 @@ impl<'c, 'a> Claims<'c, 'a> {
     pub fn at(self, index: usize) -> Claims<'c, 'a>
         ensures same { result.c.ghost_name ≡ self.entry.c.ghost_name }
         ensures place { result.condition ≡ self.entry.condition }
-        ensures adds { AddsIndexLabel (element_text index) self.entry.label result.label self.entry.c.now
+        ensures adds { AddsIndexLabel (element_text index) self.entry.label result.label
+            self.entry.c.now
             result.c.now }
     {
         let Claims {

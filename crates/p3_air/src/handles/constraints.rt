@@ -24,8 +24,8 @@ pub struct Constraints<'a> {
 }
 
 impl<'a> Constraints<'a> {
-    /// No constraints yet, of a main trace of `width` columns. ([`Constraints::column`] adds more.) What is claimed are
-    /// expressions of these.
+    /// No constraints yet, of a main trace of `width` columns. ([`Constraints::column`] adds more.) Claims are of
+    /// these expressions.
     pub fn new(alloc: Global, expressions: &'a Expressions, width: usize) -> Self
         ensures expressions { result.expressions.now ≡ expressions.now }
         ensures width { result.notes.width ≡ width }
@@ -44,7 +44,11 @@ impl<'a> Constraints<'a> {
 
     /// With this number of public values.
     pub fn with_public_values(self, count: usize) -> Self
-        ensures { result ≡ record self.entry { notes = record self.entry.notes { num_public_values = count } } }
+        ensures { result ≡ record self.entry {
+          notes = record self.entry.notes {
+            num_public_values = count;
+          };
+        } }
     {
         let mut constraints = self;
         constraints.notes.num_public_values = count;
@@ -146,7 +150,8 @@ impl<'a> Constraints<'a> {
     pub fn when(&mut self, condition: Expr) -> Claims<'_, 'a>
         ensures same { result.c.ghost_name ≡ self.entry.ghost_name }
         ensures place { result.label ≡ None }
-        ensures adds { ConditionOf Nonzero condition.now None result.condition self.old result.c.now }
+        ensures adds { ConditionOf Nonzero condition.now None result.condition self.old
+            result.c.now }
     {
         let condition = self.nonzero(None, condition);
         Claims {
@@ -160,7 +165,8 @@ impl<'a> Constraints<'a> {
     pub fn when_ne(&mut self, x: Expr, y: Expr) -> Claims<'_, 'a>
         ensures same { result.c.ghost_name ≡ self.entry.ghost_name }
         ensures place { result.label ≡ None }
-        ensures adds { ConditionOfBoth Different x.now y.now None result.condition self.old result.c.now }
+        ensures adds { ConditionOfBoth Different x.now y.now None result.condition self.old
+            result.c.now }
     {
         let condition = self.different(None, x, y);
         Claims {

@@ -40,7 +40,7 @@ impl<'a> Constraints<'a> {
         }
     }
 
-    /// What was written down, with what the AIR fixes: the draft with all steps of the expressions.
+    /// All that was written, with what the AIR fixes: the draft with all steps of the expressions.
     pub fn into_draft<F: Field>(self, fixed: Fixed<F>) -> Draft<F>
         ensures { IsDraftOf self.entry fixed result }
     {
@@ -81,18 +81,20 @@ impl<'a> Constraints<'a> {
         Ok((draft, listing))
     }
 
-    /// The AIR that declares what was claimed, in order. It refuses what went wrong first while it was written: `Memory`,
+    /// The AIR that declares the claims, in order. It refuses what went wrong first while it was written: `Memory`,
     /// an expression of others (`ForeignExpression`), a degree past `usize` (`DegreeOverflow`). An entry that isn't there is
     /// refused by the audit.
     pub fn into_air<F: Field>(self) -> Result<FlatAir<F>, AirError>
-        ensures records { IfOk result (λ a. (d : DraftRecord F) × IsDraftWith FixesNothing self.entry d
+        ensures records { IfOk result (λ a. (d : DraftRecord F) × IsDraftWith FixesNothing
+            self.entry d
             × (d.notes.fault ≡ None)
             × RecordsDraft F.ring F.ONE d (⟦<FlatAir<F> as BaseAir<F>>⟧.declaration a).constraints) }
         ensures beside { IfOk result (λ a. (f : FixedRecord F) × FixesNothing f
             × (a.beside ≡ beside_from self.entry.notes f)) }
         ensures labels { IfOk result (λ a. map string_bytes a.labels.items
             ≡ claim_labels self.entry.notes.labels.items self.entry.notes.claims.items) }
-        ensures refused { IfErr result (λ e. (d : DraftRecord F) × IsDraftWith FixesNothing self.entry d
+        ensures refused { IfErr result (λ e. (d : DraftRecord F) × IsDraftWith FixesNothing
+            self.entry d
             × DraftRefuses F.ring F.ONE d e) }
     {
         let fixed = Fixed::new(*self.notes.claims.allocator());

@@ -1,4 +1,4 @@
--- A `&` to a head of none is one to the node of none, as it stands.
+-- A `&` to a head without a receipt is a `&` to a node without a step.
 use Rattle.std.proofs.Common.{◌≡◌, List, [], ◌∷◌, refl, ap}
 use Rattle.std.proofs.raw_atomic.Walks.{proved, leaves}
 use mir.Syntax.{named}

@@ -1,4 +1,4 @@
--- A `&` to a body is one to the node, as it stands.
+-- A `&` to a body is a `&` to its node.
 use Rattle.std.proofs.Common.{◌≡◌, List, [], ◌∷◌, refl}
 use Rattle.std.proofs.raw_atomic.Walks.{proved, leaves}
 use mir.Syntax.{named}
