@@ -2,7 +2,7 @@
 ghost use Rattle.std.specs.Prelude.{◌≡◌, ◌++◌, [], length, map, Ok, OnOk, OnErr, IfOk, IfErr};
 ghost use Rattle.air_field.specs.Matrix.{matrix_of};
 ghost use Rattle.air_field.specs.Ring.{image};
-ghost use Rattle.p3_air.specs.TraceRows.{RowRefuses};
+ghost use Rattle.p3_air.specs.TraceRows.{RowRefuses, TraceRefuses};
 
 use air_core::AirError;
 use air_field::{Field, RowMajorMatrix};
@@ -17,14 +17,15 @@ pub struct TraceRows<F: Field> {
     pub cells: Vec<F>,
 }
 
-// Adds the elements of whole numbers.
+// Adds the elements of whole numbers, or nothing.
 fn push_elements<F: Field>(cells: &mut Vec<F>, row: &[u64]) -> Result<(), AllocError>
-    ensures { OnOk result
+    ensures added { OnOk result
         (cells.new.items ≡ cells.old.items ++ map (image F.ring) row.now) }
+    ensures kept { OnErr result (cells.new.items ≡ cells.old.items) }
 {
     cells.reserve(row.len())?;
     for n in row {
-        cells.push(F::from_u64(*n))?;
+        cells.push_reserved(F::from_u64(*n));
     }
     Ok(())
 }
@@ -68,13 +69,14 @@ impl<F: Field> TraceRows<F> {
         Ok(())
     }
 
-    /// Adds a row of whole numbers: one, added n times. A row of another width is refused (`Ragged`). Where memory is
-    /// refused, a part of the row may be left.
+    /// Adds a row of whole numbers: one, added n times. A row of another width is refused (`Ragged`). A refusal adds
+    /// nothing.
     pub fn push_numbers(&mut self, row: &[u64]) -> Result<(), AirError>
         ensures width { self.new.width ≡ self.old.width }
         ensures whole { OnOk result (length row.now ≡ self.old.width) }
         ensures added { OnOk result (self.new.cells.items
             ≡ self.old.cells.items ++ map (image F.ring) row.now) }
+        ensures kept { OnErr result (self.new.cells.items ≡ self.old.cells.items) }
         ensures refused { IfErr result (RowRefuses (length row.now) self.old.width) }
     {
         self.fits(row.len())?;
@@ -82,9 +84,10 @@ impl<F: Field> TraceRows<F> {
         Ok(())
     }
 
-    /// The trace of the rows. It takes no memory.
+    /// The trace of the rows. It takes no memory, and refuses only cells that don't fill whole rows (`Ragged`).
     pub fn into_trace(self) -> Result<RowMajorMatrix<F>, AirError>
-        ensures { IfOk result (λ trace. matrix_of self.width self.cells.items ≡ Ok trace) }
+        ensures trace { IfOk result (λ trace. matrix_of self.width self.cells.items ≡ Ok trace) }
+        ensures refused { IfErr result (TraceRefuses self.width self.cells.items) }
     {
         let TraceRows { width, cells } = self;
         let trace = RowMajorMatrix::new(cells, width)?;
