@@ -101,11 +101,7 @@ fn external_round<'a>(
     ))
 }
 
-fn internal_round<'a>(
-    c: &mut Constraints<'a>,
-    state: State<'a>,
-    constant: u64,
-) -> State<'a> {
+fn internal_round<'a>(c: &mut Constraints<'a>, state: State<'a>, constant: u64) -> State<'a> {
     let (w, x, y, z) = state;
     let [w0, w1, w2, w3] = w;
     internal_layer(([s_box(c, w0 + constant), w1, w2, w3], x, y, z))

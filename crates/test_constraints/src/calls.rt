@@ -1,9 +1,7 @@
 //! Each call, as the constraint that it writes.
 use crate::shown::print_shown;
 use p3_air::boundary::BoundaryEnd;
-use p3_air::{
-    AirError, BabyBear, Constraints, Expressions, Field, Fixed, FlatAir, trace_of_rows,
-};
+use p3_air::{AirError, BabyBear, Constraints, Expressions, Field, Fixed, FlatAir, trace_of_rows};
 use std::alloc::Global;
 use std::io;
 

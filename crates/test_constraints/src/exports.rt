@@ -1,8 +1,8 @@
 //! AIRs as objects: with their labels, recorded, without a trace; and what is refused.
 use air_export::{ExportError, export_air, export_air_alone, export_flat_air, print_object};
 use p3_air::{
-    AirError, BabyBear, BoundaryEnd, Constraints, Expressions, ExtConstraints, ExtExpressions,
-    Field, Fixed, FlatAir, FlatExtAir, RowMajorMatrix, trace_of_rows,
+    AirError, BabyBear, BoundaryEnd, Constraints, Expressions, Field, Fixed, FlatAir,
+    RowMajorMatrix, trace_of_rows,
 };
 use serde_json::Value;
 use std::alloc::Global;
@@ -27,15 +27,6 @@ fn counter(alloc: Global) -> Result<FlatAir<BabyBear>, AirError> {
     c.when(e.periodic(0))
         .assert_eq(bit, e.preprocessed_current(0));
     c.into_air_with(fixed)
-}
-
-/// A constraint over the extension, which is the field itself.
-fn extension(alloc: Global) -> Result<FlatExtAir<BabyBear, BabyBear>, AirError> {
-    let e = ExtExpressions::<BabyBear, BabyBear>::new(alloc);
-    let mut c = ExtConstraints::new(alloc, &e, 1);
-    c.assert_zero(e.current(0));
-    c.assert_zero_ext(e.lift(e.current(0)));
-    c.into_air()
 }
 
 fn rows(alloc: Global) -> Result<RowMajorMatrix<BabyBear>, AirError> {
@@ -73,10 +64,6 @@ fn one_column(alloc: Global) -> Object {
     export_flat_air(alloc, &counter(alloc)?, &trace, &[], None, 0)
 }
 
-fn over_extension(alloc: Global) -> Object {
-    export_air_alone(alloc, &extension(alloc)?)
-}
-
 fn print_under(rt: &HostRuntime, heading: &str, object: Object) -> io::Result<()> {
     println!(rt; "== {heading}")?;
     print_object(rt, object)
@@ -90,6 +77,5 @@ pub fn print(rt: &HostRuntime) -> io::Result<()> {
     print_under(rt, "a recorded object", recorded(alloc, &[two]))?;
     print_under(rt, "an object without a trace", alone(alloc))?;
     print_under(rt, "a trace of one column", one_column(alloc))?;
-    print_under(rt, "no public value", recorded(alloc, &[]))?;
-    print_under(rt, "constraints over an extension", over_extension(alloc))
+    print_under(rt, "no public value", recorded(alloc, &[]))
 }

@@ -3,8 +3,7 @@ use crate::ext_shown::print_ext_shown;
 use p3_air::{
     AirError, BabyBear, BinomialExtensionField as Ext, Claim, Claimed, Draft, Expressions,
     ExtClaimed, ExtConstraints, ExtDraft, ExtEntry, ExtExpressions, ExtStep, Fixed, FlatExtAir,
-    Notes,
-    SymbolicVariableExt,
+    Notes, SymbolicVariableExt,
 };
 use std::alloc::Global;
 use std::io;
