@@ -1,0 +1,2 @@
+-- The sum of a column, from the constraints.
+mod Sums

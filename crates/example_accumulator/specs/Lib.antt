@@ -1,0 +1,2 @@
+pub mod Accumulator
+pub mod Totals
