@@ -5,7 +5,7 @@ use Rattle.std.proofs.Common.{◌≡◌, ◌<◌, ◌+◌, ℕ, zero, suc, List,
 use Rattle.air_field.specs.Assignment.{Trace, row_assignment}
 use Rattle.air_field.specs.Domain.{IsDomain}
 use Rattle.air_field.specs.Ring.{CommRing, image, minus, self_algebra}
-use Rattle.air_field.specs.Term.{Leaf, Term}
+use Rattle.air_field.specs.Term.{Leaf}
 use Rattle.air_field.specs.Value.{value}
 use Rattle.air_field.specs.laws.Images.{HasCharacteristic, image-add}
 use Rattle.air_field.specs.laws.Ring.{add_left_comm, mul_one, mul_zero, one_mul, zero_mul}
@@ -18,7 +18,7 @@ use Rattle.air_gadgets.specs.laws.Vanishing.{both_vanish, one_vanishes}
 use Rattle.blake3.specs.Compression.{Block, compress}
 use Rattle.blake3.specs.Hashing.{first_words, start_words}
 use Rattle.blake3.specs.declared.words.State.{State}
-use Rattle.air_blake3.specs.Holding.{CompressionIsSound, HoldsCompression, IsBitsOf, IsInput, IsOutput}
+use Rattle.air_blake3.specs.Holding.{CompressionIsSound, HoldsCompression, IsBitsOf, IsOutput}
 use Rattle.air_blake3.specs.Row.{compression, message_column}
 use Rattle.air_blake3.specs.Words.{bits_at}
 use Rattle.air_chains.specs.Rows.{height, nth_row, value_at, HoldOnRows}

@@ -1,9 +1,9 @@
 -- The compression of a node's block.
 use Rattle.std.specs.Prelude.{◌/◌, ◌%◌, ◌==◌, ◌*◌, if◌then◌else◌, slice_index}
 use Rattle.std.specs.List.{All}
-use Rattle.std.proofs.Common.{◌≡◌, ◌<◌, ◌+◌, ℕ, zero, suc, List, [], ◌∷◌, ◌++◌, length, slice_index_or, refl, sym, ◌∙◌, ap, arith}
+use Rattle.std.proofs.Common.{◌≡◌, ◌<◌, ◌+◌, ℕ, zero, suc, List, [], ◌∷◌, ◌++◌, length, refl, sym, ◌∙◌, ap, arith}
 use Rattle.blake3.specs.Blocks.{block_of}
-use Rattle.blake3.specs.Compression.{Block, after_rounds, columns_mixed, compress, diagonals, first_state, from_diagonals, mix, output_column, outputs, place_in, round}
+use Rattle.blake3.specs.Compression.{Block, after_rounds, columns_mixed, compress, diagonals, first_state, from_diagonals, mix, output_column, place_in, round}
 use Rattle.blake3.specs.Hashing.{first_words, start_words}
 use Rattle.blake3.specs.laws.Places.{place_in-below}
 use Rattle.blake3.specs.declared.words.State.{State}
