@@ -75,12 +75,12 @@ module _ {F : Type 0} {p : ℕ} (m : Modular F p) where
   flat_then_explain : (d : Data) (text : List ℕ) → (e : AirError) × RefusesValue m d e × name_only d e 2 text → (more : List ℕ) × AddsLine text more × ExplainedIn F p m d 2 more
   flat_then_explain d text (e, refuses, answer) =
       let reason = input_refusal m d e in
-      (reason_text (air_name e) reason, (reason, two_lines _ reason ∙ ap (λ (t : List ℕ). t ++ lines_text (reason ∷ [])) (sym answer.1)), inr (e, refuses, (refl, refl)))
+      (reason_text (air_name e) reason, (reason, two_lines (codes "refused: " ++ air_name e) reason ∙ ap (λ (t : List ℕ). t ++ lines_text (reason ∷ [])) (sym answer.1)), inr (e, refuses, (refl, refl)))
 
   explain_then_flat : (d : Data) (text : List ℕ) → (e : AirError) × RefusesValue m d e × name_and_reason d e 2 text → (first : List ℕ) × AddsLine first text × AuditedIn F p m d 2 first
   explain_then_flat d text (e, refuses, answer) =
       let reason = input_refusal m d e in
-      (refusal_text (air_name e), (reason, answer.1 ∙ two_lines _ reason), inr (e, refuses, (refl, refl)))
+      (refusal_text (air_name e), (reason, answer.1 ∙ two_lines (codes "refused: " ++ air_name e) reason), inr (e, refuses, (refl, refl)))
 
   pub explained_too : (d : Data) (text : List ℕ) → AuditedIn F p m d 2 text → (more : List ℕ) × AddsLine text more × ExplainedIn F p m d 2 more
   explained_too d text h = flat_then_explain d text (refusals_only m tells_found name_only (λ input audit t told. no_status audit told.0) d text h)

@@ -13,7 +13,7 @@ returns-in-Err g c =
 
 pub returns-in_err-text : goal.returns-in_err-text
 returns-in_err-text g c =
-    let out = c.from_residual-in_err-text in
+    let out = c.from_residual in
     let p = err_from_is_err_and out.result out.ensures.1 in
     rw (p.1, p.2) (record { ok = tt; refused = inl refl })
 

@@ -6,7 +6,7 @@ use Rattle.air_program.proofs.show.show_parts.Goals as goal
 
 pub returns-in-Err : goal.returns-in-Err
 returns-in-Err g c =
-    refused_given g.F.PrimeField64.residues c.args.parts (Err c.in-Err.fault) c.in-Err.ensures.read c.args.bytes.now c.in-Err.fault c.from-in-Err.result refl c.from-in-Err.ensures c.refused_labelled.result c.refused_labelled.ensures
+    refused_given g.F.PrimeField64.residues c.args.parts (Err c.in-Err.fault) c.in-Err.ensures.read c.args.bytes.now c.in-Err.fault c.from.result refl c.from.ensures c.refused_labelled.result c.refused_labelled.ensures
 
 pub returns-in_err-text : goal.returns-in_err-text
 returns-in_err-text g c =
