@@ -13,6 +13,7 @@ pub mod FlatAnswers
 pub mod ExplainedLemmas
 pub mod Outcomes
 pub mod NamedAnswers
+pub mod ReasonedAnswers
 pub mod ShowAnswers
 pub mod Kept
 pub mod AnswerLaws

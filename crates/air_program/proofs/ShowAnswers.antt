@@ -1,5 +1,5 @@
 -- The answer of `show` to the members `constraints` and `labels`.
-use Rattle.std.proofs.Common.{◌≡◌, ◌≢◌, ◌⊎◌, ℕ, List, map, Result, Ok, Err, string_bytes, refl, inl, inr}
+use Rattle.std.proofs.Common.{◌≡◌, ◌≢◌, ◌⊎◌, ℕ, List, map, Result, Ok, Err, string_bytes, refl, ap, subst, ◌∙◌, inl, inr}
 use Rattle.serde_json.specs.Data.{Data}
 use Rattle.serde_json.specs.View.{view}
 use Rattle.air_field.specs.Modular.{Modular}
@@ -17,10 +17,15 @@ use Rattle.air_object.specs.laws.Members.{labelled_agree}
 use Rattle.air_object.specs.declared.labelled.Labelled.{Labelled}
 use Rattle.air_object.specs.declared.parts.Parts.{Parts}
 use Rattle.air_object.proofs.PartLemmas.{gives_ok, gives_err, labelled_give, roots_given}
-use Rattle.air_program.specs.ByField.{HasParts}
-use Rattle.air_program.specs.Refusals.{name_of, refusal_text, air_refusal}
+use Rattle.air_core.specs.declared.errors.AirError.{AirError}
+use Rattle.air_core.specs.declared.errors.AirError.TheVariants as air
+use Rattle.air_program.specs.ByField.{StandsFor, HasParts, AnswersParts}
+use Rattle.air_program.specs.Reasons.{labelled_refusal}
+use Rattle.air_program.specs.Refusals.{air_name, AnswersReason, GivesAnswer}
 use Rattle.air_program.specs.Shown.{ShowsValue, ShownIn}
-use Rattle.air_program.specs.declared.refusals.Refusal.TheVariants as refusals
+use Rattle.air_program.specs.declared.refusals.Refusal.{Refusal}
+use Rattle.air_program.specs.declared.texts.Answer.{Answer}
+use Rattle.air_program.proofs.NamedAnswers.{gives_so}
 
 module _ {F : Type 0} {p : ℕ} (m : Modular F p) (parts : Parts F) (r : Result (Labelled F) FlatError) (given : Gives seen_labelled r (labelled_with (given_by parts.constraints) (view parts.rest))) where
   read_of : (d : Data) → HasParts m parts d → Gives seen_labelled r (labelled_read m d)
@@ -43,12 +48,8 @@ module _ {F : Type 0} {p : ℕ} (m : Modular F p) (parts : Parts F) (r : Result 
   first f is n d has = (labelled_agree m).fault d f (fails_is f (labelled_read m d) (gives_err seen_labelled r f (labelled_read m d) is (read_of d has)) n)
 
   -- the fault is the first one of the members, or `Memory`
-  pub refused_given : (f : FlatError) → r ≡ Err f
-      → (air_refusal (air_fault f) ≡ refusals.Memory) ⊎ ((d : Data) → HasParts m parts d → ShownIn F p m d 2 (refusal_text (name_of (air_refusal (air_fault f)))))
-  refused_given faults.Memory is = inl refl
-  refused_given faults.DegreeOverflow is = inr (λ d h. inr (faults.DegreeOverflow, first faults.DegreeOverflow is (λ e. absurd cc) d h, (refl, refl)))
-  refused_given (faults.Shape at) is = inr (λ d h. inr (faults.Shape at, first (faults.Shape at) is (λ e. absurd cc) d h, (refl, refl)))
-  refused_given faults.EmptyList is = inr (λ d h. inr (faults.EmptyList, first faults.EmptyList is (λ e. absurd cc) d h, (refl, refl)))
-  refused_given (faults.Operand at i) is = inr (λ d h. inr (faults.Operand at i, first (faults.Operand at i) is (λ e. absurd cc) d h, (refl, refl)))
-  refused_given (faults.WrongDegree at s k) is = inr (λ d h. inr (faults.WrongDegree at s k, first (faults.WrongDegree at s k) is (λ e. absurd cc) d h, (refl, refl)))
-  refused_given (faults.NotCanonical at) is = inr (λ d h. inr (faults.NotCanonical at, first (faults.NotCanonical at) is (λ e. absurd cc) d h, (refl, refl)))
+  pub refused_given : (bytes : List ℕ) (f : FlatError) (e : AirError) → r ≡ Err f → e ≡ air_fault f → (a : Result Answer Refusal)
+      → GivesAnswer (λ status text. (e ≢ air.Memory) × ((d : Data) → StandsFor bytes d → AnswersReason (air_name e) (labelled_refusal m d e) status text)) a
+      → GivesAnswer (AnswersParts ShownIn m bytes parts) a
+  refused_given bytes f e is same a given = gives_so a given (λ status text h d stands has.
+      inr (f, first f is (λ z. h.0 (same ∙ ap air_fault z)) d has, subst (λ g. AnswersReason (air_name g) (labelled_refusal m d g) status text) same (h.1 d stands)))

@@ -17,6 +17,8 @@ use Rattle.air_print.specs.Explained.{Explains, reached_definitions}
 use Rattle.air_audit.specs.declared.audit.Audit.{Audit}
 use Rattle.air_object.specs.declared.input.FlatInput.{FlatInput}
 use Rattle.air_program.specs.FlatAnswer.{AnswersAudit}
+use Rattle.air_program.specs.Reasons.{input_refusal}
+use Rattle.air_program.specs.Refusals.{AnswersReason, air_name}
 use Rattle.air_program.specs.Texts.{Found, found_in, place_of, IsFailureLine, count_lines, findings_status}
 use Rattle.air_print.specs.Lines.{lines_text, listed_name}
 
@@ -96,7 +98,8 @@ input_trace i = record {
 abbrev pub ExplainsInput : {F : Type 0} {p : ℕ} → Modular F p → FlatInput F → Audit F → List ℕ → Type 0
 ExplainsInput m i audit = IsExplainedText m i.constraints.pool i.constraints.roots.items i.beside.cells.items (input_trace i) (found_in audit)
 
--- what the audit found, explained, or the first error
+-- what the audit found, explained, or the name of the first error and its reason
 abbrev pub ExplainedIn : (F : Type 0) (p : ℕ) → Modular F p → Data → ℕ → List ℕ → Type 0
 ExplainedIn F p m =
     AnswersAudit m (λ input audit status text. (status ≡ findings_status (found_in audit)) × ExplainsInput m input audit text)
+    (λ d e. AnswersReason (air_name e) (input_refusal m d e))

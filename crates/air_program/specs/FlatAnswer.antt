@@ -46,12 +46,12 @@ module _ {F : Type 0} {p : ℕ} (m : Modular F p) where
       HasInputFault m d e
       ⊎ ((input : FlatInput F) × SpellsInput m d input × AuditRefusesInput input e)
 
-  -- the answer by `tells` to the input that the value spells and its audit, or the name of the first error
-  abbrev pub AnswersAudit : (FlatInput F → Audit F → ℕ → List ℕ → Type 0) → Data → ℕ → List ℕ → Type 0
-  AnswersAudit tells d status text =
+  -- the answer by `tells` to the input that the value spells and its audit, or by `refuses` to the first error
+  abbrev pub AnswersAudit : (FlatInput F → Audit F → ℕ → List ℕ → Type 0) → (Data → AirError → ℕ → List ℕ → Type 0) → Data → ℕ → List ℕ → Type 0
+  AnswersAudit tells refuses d status text =
       ((input : FlatInput F) × (audit : Audit F) × AuditsValue d input audit × tells input audit status text)
-      ⊎ ((e : AirError) × RefusesValue d e × AnswersRefusal (air_name e) status text)
+      ⊎ ((e : AirError) × RefusesValue d e × refuses d e status text)
 
--- what the audit found, or the first error
+-- what the audit found, or the name of the first error
 abbrev pub AuditedIn : (F : Type 0) (p : ℕ) → Modular F p → Data → ℕ → List ℕ → Type 0
-AuditedIn F p m = AnswersAudit m (λ input. TellsFound)
+AuditedIn F p m = AnswersAudit m (λ input. TellsFound) (λ d e. AnswersRefusal (air_name e))

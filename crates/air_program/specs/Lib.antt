@@ -2,6 +2,7 @@ pub mod Grammar
 pub mod Parsing
 pub mod Texts
 pub mod Refusals
+pub mod Reasons
 pub mod Answer
 pub mod ByField
 pub mod FlatAnswer

@@ -58,6 +58,14 @@ refusal_text name = lines_text ((codes "refused: " ++ name) ∷ [])
 abbrev pub AnswersRefusal : List ℕ → ℕ → List ℕ → Type 0
 AnswersRefusal name status text = (status ≡ 2) × (text ≡ refusal_text name)
 
+-- the two lines of a refusal and its reason
+abbrev pub reason_text : List ℕ → List ℕ → List ℕ
+reason_text name reason = lines_text ((codes "refused: " ++ name) ∷ reason ∷ [])
+
+-- the status and the text of a refusal that has a reason
+abbrev pub AnswersReason : List ℕ → List ℕ → ℕ → List ℕ → Type 0
+AnswersReason name reason status text = (status ≡ 2) × (text ≡ reason_text name reason)
+
 -- A status and a text are an answer; so is a refusal, unless it is `Memory`.
 pub record GivesAnswer (answers : ℕ → List ℕ → Type 0) (given : Result Answer Refusal) : Type 0 where
   pub ok : IfOk given (λ a. answers a.status (string_bytes a.text))

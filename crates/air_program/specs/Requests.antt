@@ -10,4 +10,4 @@ use Rattle.air_program.specs.declared.commands.Request.TheVariants.{Trace, Objec
 -- the answer to an input
 abbrev pub Answers : Request → List ℕ → ℕ → List ℕ → Type 0
 Answers (Trace asked) input = IsAnswerTo asked.cap asked.transition_weight (parse input)
-Answers (Object wanted) input = AnswersBytes (AnswersIn wanted) input
+Answers (Object wanted) input = AnswersBytes wanted (AnswersIn wanted) input

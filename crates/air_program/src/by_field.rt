@@ -11,6 +11,7 @@ ghost use Rattle.air_program.specs.Wanted.{AnswersIn};
 use crate::commands::Wanted;
 use crate::explain::explain_parts;
 use crate::flat::audit_parts;
+use crate::reasons::{refused_field, refused_text};
 use crate::refusals::Refusal;
 use crate::show::show_parts;
 use crate::texts::Answer;
@@ -35,19 +36,20 @@ fn parts_from<F: PrimeField64>(alloc: Global, bytes: &[u8]) -> Result<Parts<F>, 
     }
 }
 
-/// The answer for an object over F, given its parts.
+/// The answer for an object over F, given its bytes and its parts.
 fn answer_parts<F: PrimeField64 + 'static>(
     alloc: Global,
     wanted: Wanted,
+    bytes: &[u8],
     parts: Parts<F>,
 ) -> Result<Answer, Refusal>
     requires { InPool parts.constraints }
-    ensures { GivesAnswer (AnswersParts (AnswersIn wanted) F.residues parts) result }
+    ensures { GivesAnswer (AnswersParts (AnswersIn wanted) F.residues bytes.now parts) result }
 {
     match wanted {
         Wanted::Audit => audit_parts(alloc, parts),
-        Wanted::Explain => explain_parts(alloc, parts),
-        Wanted::Show => show_parts(alloc, parts),
+        Wanted::Explain => explain_parts(alloc, bytes, parts),
+        Wanted::Show => show_parts(alloc, bytes, parts),
     }
 }
 
@@ -57,11 +59,13 @@ fn answer_over<F: PrimeField64 + 'static>(
     wanted: Wanted,
     bytes: &[u8],
 ) -> Result<Answer, Refusal>
-    ensures { GivesAnswer (AnswersValue (AnswersIn wanted F F.ORDER_U64 F.residues) bytes.now)
-        result }
+    ensures { GivesAnswer (AnswersValue wanted (AnswersIn wanted F F.ORDER_U64 F.residues)
+        bytes.now) result }
 {
-    let parts: Parts<F> = parts_from(alloc, bytes)?;
-    answer_parts(alloc, wanted, parts)
+    match parts_from::<F>(alloc, bytes) {
+        Ok(parts) => answer_parts(alloc, wanted, bytes, parts),
+        Err(why) => refused_text(alloc, wanted, bytes, why),
+    }
 }
 
 /// The answer for an object over the field of this name, given its bytes.
@@ -71,7 +75,7 @@ fn answer_named(
     field: FieldName,
     bytes: &[u8],
 ) -> Result<Answer, Refusal>
-    ensures { GivesAnswer (AnswersOver (AnswersIn wanted) field bytes.now) result }
+    ensures { GivesAnswer (AnswersOver wanted (AnswersIn wanted) field bytes.now) result }
 {
     match field {
         FieldName::BabyBear => answer_over::<BabyBear>(alloc, wanted, bytes),
@@ -92,14 +96,17 @@ fn answer_first<F: PrimeField64 + 'static>(
     requires { (d : Data) (status : ℕ) (text : List ℕ)
         → AnswersIn wanted F F.ORDER_U64 F.residues d status text
         → OverField (λ G p m. AnswersIn wanted G p m d status text) field }
-    ensures { GivesAnswer (AnswersBytes (AnswersIn wanted) bytes.now) result }
+    ensures { GivesAnswer (AnswersBytes wanted (AnswersIn wanted) bytes.now) result }
 {
-    let parts: Parts<F> = parts_from(alloc, bytes)?;
+    let parts = match parts_from::<F>(alloc, bytes) {
+        Ok(parts) => parts,
+        Err(why) => return refused_text(alloc, wanted, bytes, why),
+    };
     let Some(named) = field_of(&parts.rest) else {
-        return Err(Refusal::Field);
+        return refused_field(alloc, wanted);
     };
     if named == field {
-        return answer_parts(alloc, wanted, parts);
+        return answer_parts(alloc, wanted, bytes, parts);
     }
     drop(parts);
     answer_named(alloc, wanted, named, bytes)
@@ -130,7 +137,7 @@ fn field_ahead(bytes: &[u8]) -> FieldName {
 
 /// The answer to a JSON object. It is read once if its first member is `field`, or if it is over `BabyBear`.
 pub fn answer_object(alloc: Global, wanted: Wanted, bytes: &[u8]) -> Result<Answer, Refusal>
-    ensures { GivesAnswer (AnswersBytes (AnswersIn wanted) bytes.now) result }
+    ensures { GivesAnswer (AnswersBytes wanted (AnswersIn wanted) bytes.now) result }
 {
     let first = field_ahead(bytes);
     match first {

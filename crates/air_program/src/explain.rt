@@ -22,6 +22,7 @@ ghost use Rattle.air_program.specs.Refusals.{GivesAnswer};
 
 use crate::answer::status;
 use crate::flat::{Audited, audit_object};
+use crate::reasons::refused_input;
 use crate::refusals::Refusal;
 use crate::texts::{Answer, push_counts, push_failure};
 use air_audit::{ConstraintFailure, FlatAir};
@@ -241,15 +242,20 @@ fn explained_text<F: PrimeField64>(
     Ok(text)
 }
 
-/// The answer that explains each failure of an audit of an object over F with these parts.
+/// The answer that explains each failure of an audit of an object over F with these parts, which were read from the
+/// bytes.
 pub(crate) fn explain_parts<F: PrimeField64 + 'static>(
     alloc: Global,
+    bytes: &[u8],
     parts: Parts<F>,
 ) -> Result<Answer, Refusal>
     requires { InPool parts.constraints }
-    ensures { GivesAnswer (AnswersParts ExplainedIn F.residues parts) result }
+    ensures { GivesAnswer (AnswersParts ExplainedIn F.residues bytes.now parts) result }
 {
-    let audited = audit_object(alloc, parts)?;
+    let audited = match audit_object(alloc, parts) {
+        Ok(audited) => audited,
+        Err(error) => return refused_input::<F>(alloc, bytes, error),
+    };
     let text = explained_text(alloc, &audited)?;
     let status = status(&audited.audit);
     Ok(Answer { status, text })

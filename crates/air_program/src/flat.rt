@@ -1,6 +1,6 @@
 //! The audit of a JSON object: an AIR whose constraints are lists of nodes, and its trace.
 
-ghost use Rattle.std.specs.Prelude.{◌≢◌, IfOk, IfErr};
+ghost use Rattle.std.specs.Prelude.{◌≢◌, ℕ, List, IfOk, IfErr};
 ghost use Rattle.serde_json.specs.Data.{Data};
 ghost use Rattle.air_core.specs.declared.errors.AirError.{AirError};
 ghost use Rattle.air_object.specs.Parts.{InPool};
@@ -64,7 +64,8 @@ pub(crate) fn audit_parts<F: PrimeField64 + 'static>(
     parts: Parts<F>,
 ) -> Result<Answer, Refusal>
     requires { InPool parts.constraints }
-    ensures { GivesAnswer (AnswersParts AuditedIn F.residues parts) result }
+    ensures { (bytes : List ℕ) → GivesAnswer (AnswersParts AuditedIn F.residues bytes parts)
+        result }
 {
     let audited = audit_object(alloc, parts)?;
     render(alloc, &audited.audit)

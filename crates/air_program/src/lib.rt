@@ -9,6 +9,7 @@ mod flat;
 mod input;
 pub mod laws;
 pub mod program;
+mod reasons;
 pub mod refusals;
 mod show;
 mod texts;

@@ -1,15 +1,12 @@
 use Rattle.std.proofs.Common.{◌≡◌, List, ℕ, String, Global, Ok, Err, map, string_bytes, refl, ap, subst, ◌∙◌, inl}
 use Rattle.std.proofs.lemmas.Result.{err_from_is_err_and}
-use Rattle.air_json.specs.Faults.{air_fault}
 use Rattle.air_print.specs.Lines.{ShowsRoots}
-use Rattle.air_program.specs.Refusals.{air_refusal}
 use Rattle.air_program.proofs.ShowAnswers.{shows_given, refused_given}
 use Rattle.air_program.proofs.show.show_parts.Goals as goal
 
 pub returns-in-Err : goal.returns-in-Err
 returns-in-Err g c =
-    let is : c.from-in-Err.result ≡ air_refusal (air_fault c.in-Err.fault) = c.from-in-Err.ensures ∙ ap air_refusal c.from.ensures in
-    rw is (record { ok = tt; refused = refused_given g.F.PrimeField64.residues c.args.parts (Err c.in-Err.fault) c.in-Err.ensures.read c.in-Err.fault refl })
+    refused_given g.F.PrimeField64.residues c.args.parts (Err c.in-Err.fault) c.in-Err.ensures.read c.args.bytes.now c.in-Err.fault c.from.result refl c.from.ensures c.refused_labelled.result c.refused_labelled.ensures
 
 pub returns-in_err-text : goal.returns-in_err-text
 returns-in_err-text g c =
@@ -22,7 +19,7 @@ returns g c =
     let l = c.in-Ok.labelled in
     let text = string_bytes c.in_ok-text.text in
     record {
-      ok = λ d h. inl (
+      ok = λ d stands h. inl (
         refl,
         shows_given m c.args.parts (Ok l) c.in-Ok.ensures.read l refl c.in-Ok.ensures.taken text
             (subst (λ (ls : List (String Global)). ShowsRoots m l.pool l.roots.items (map string_bytes ls) text) c.deref-2.ensures.value

@@ -1,0 +1,5 @@
+pub mod Items
+pub mod Lists
+pub mod Agreement
+pub mod ValueLaws
+pub mod InputLaws

@@ -1,0 +1,4 @@
+pub mod Reasons
+pub mod Nodes
+pub mod Members
+pub mod Errors
