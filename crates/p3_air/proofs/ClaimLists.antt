@@ -1,5 +1,5 @@
 -- The step of a loop that claims something of each of many expressions: a label of the index, and a claim.
-use Rattle.std.proofs.Common.{◌≡◌, ◌<◌, ◌+◌, ℕ, List, [], ◌∷◌, ◌++◌, map, length, take, get_or, Option, None, Some, slice_get, refl, sym, ap, subst, ◌∙◌, arith, append_assoc, append-nil}
+use Rattle.std.proofs.Common.{◌≡◌, ◌<◌, ◌+◌, ℕ, zero, suc, List, [], ◌∷◌, ◌++◌, map, length, take, get_or, Option, None, Some, slice_get, refl, sym, ap, subst, ◌∙◌, arith, append_assoc, append-nil}
 use Rattle.std.specs.Prelude.{IfSome, IsSomeAnd, String, string_bytes, zip}
 use Rattle.std.specs.List.{enumerate_from, range_with_len}
 use Rattle.std.specs.Global.{Global}
@@ -25,8 +25,8 @@ if_some : {T : Type 0} {P : T → Type 0} (o : Option T) → ((x : T) → o ≡ 
 if_some None f = tt
 if_some (Some x) f = f x refl
 
-at_some : {T : Type 0} {P : T → Type 0} (o : Option T) (x : T) → IfSome o P → o ≡ Some x → P x
-at_some {P} o x h e = subst (λ v. IfSome v P) e h
+at_some : {T : Type 0} (P : T → Type 0) (o : Option T) (x : T) → IfSome o P → o ≡ Some x → P x
+at_some P o x h e = subst (λ v. IfSome v P) e h
 
 slice_get_before : {X : Type 0} (xs ys : List X) (k : ℕ) (x : X) → slice_get xs k ≡ Some x → slice_get (xs ++ ys) k ≡ Some x
 slice_get_before [] ys k x e = absurd (cc e)
@@ -34,8 +34,8 @@ slice_get_before (z ∷ xs) ys zero x e = e
 slice_get_before (z ∷ xs) ys (suc k) x e = slice_get_before xs ys k x e
 
 enumerate_push : {X : Type 0} (n : ℕ) (xs : List X) (x : X) → enumerate_from n (xs ++ x ∷ []) ≡ enumerate_from n xs ++ (n + length xs, x) ∷ []
-enumerate_push n [] x = let e : n ≡ n + 0 = omega arith in ap {B = List (ℕ × X)} (λ k. (k, x) ∷ []) e
-enumerate_push n (z ∷ xs) x = let e : n + 1 + length xs ≡ n + length (z ∷ xs) = omega arith in
+enumerate_push {X = X} n [] x = let e : n ≡ n + 0 = omega arith in ap {B = List (ℕ × X)} (λ k. (k, x) ∷ []) e
+enumerate_push {X = X} n (z ∷ xs) x = let e : n + 1 + length xs ≡ n + length (z ∷ xs) = omega arith in
     ap {B = List (ℕ × X)} (λ r. (n, z) ∷ r) (enumerate_push (n + 1) xs x ∙ ap {B = List (ℕ × X)} (λ k. enumerate_from (n + 1) xs ++ (k, x) ∷ []) e)
 
 -- both calls leave all else
@@ -67,7 +67,7 @@ label_more (Some outer) label count before b m e h none =
       length_push more s ∙ ap (λ k. k + 1) e.2,
       if_some (slice_get before outer) (λ t is.
           map_push string_bytes more s
-          ∙ (ap (λ l. l ++ string_bytes s ∷ []) (at_some (slice_get before outer) t e.3 is)
+          ∙ (ap (λ l. l ++ string_bytes s ∷ []) (at_some _ (slice_get before outer) t e.3 is)
           ∙ (ap (λ w. map (λ i. text_under (Some t) (element_text i)) (range_with_len 0 count) ++ w ∷ [])
           (new.1 ∙ ap (λ o. text_under o (element_text count)) (ap (λ l. slice_get l outer) e.1 ∙ slice_get_before before more outer t is))
           ∙ sym (map-range_with_len_more (λ i. text_under (Some t) (element_text i)) 0 count count (omega arith))))),
