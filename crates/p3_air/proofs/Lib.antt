@@ -1,1 +1,2 @@
 pub mod DraftChanges
+pub mod ClaimLists

@@ -179,5 +179,6 @@ pub use Rattle.air_tape.specs.Tapes
 pub mod HandleView
 pub mod HandleSteps
 pub mod HandleClaims
+pub mod HandleLists
 pub mod HandleDrafts
 pub mod TraceRows

@@ -1,9 +1,10 @@
 //! What claims note.
-ghost use Rattle.std.specs.Prelude.{◌≡◌, IsSome};
+ghost use Rattle.std.specs.Prelude.{◌≡◌, IsSome, map};
 ghost use Rattle.air_core.specs.Texts.{element_text};
 ghost use Rattle.air_draft.specs.declared.claim.Claimed.TheVariants.{Zero, One, Bool, Equal};
 ghost use Rattle.air_draft.specs.declared.claim.Factor.TheVariants.{Nonzero, Different};
 ghost use Rattle.p3_air.specs.HandleClaims.{OnlyFault, AddsClaim, ClaimsOf, ClaimsOfBoth, AddsCondition, ConditionOf, ConditionOfBoth, AddsLabel, AddsIndexLabel};
+ghost use Rattle.p3_air.specs.HandleLists.{ClaimsOfEach, ClaimsOfPairs};
 
 use crate::expressions::view::Expr;
 use crate::handles::constraints::Constraints;
@@ -121,6 +122,51 @@ impl<'a> Constraints<'a> {
         match outer {
             Some(_) => Some(self.notes.index_label(outer, index)),
             None => None,
+        }
+    }
+
+    /// Claims that each is zero, the i-th under the label of i where there is an outer one.
+    pub(crate) fn zeros(&mut self, xs: &[Expr], condition: Option<usize>, outer: Option<usize>)
+        ensures { ClaimsOfEach Zero (map (λ x. x.now) xs.now) condition outer self.old self.new }
+    {
+        for (i, x) in xs.iter().enumerate() {
+            let label = self.index_label(outer, i);
+            self.zero(*x, condition, label);
+        }
+    }
+
+    /// Claims that each is zero or one, the i-th under the label of i where there is an outer one.
+    pub(crate) fn bits(&mut self, xs: &[Expr], condition: Option<usize>, outer: Option<usize>)
+        ensures { ClaimsOfEach Bool (map (λ x. x.now) xs.now) condition outer self.old self.new }
+    {
+        for (i, x) in xs.iter().enumerate() {
+            let label = self.index_label(outer, i);
+            self.bit(*x, condition, label);
+        }
+    }
+
+    /// Claims that both lists are equal, place by place, the i-th claim under the label of i where there is an outer
+    /// one. Lists of two lengths leave a fault, and no claim.
+    pub(crate) fn equals(
+        &mut self,
+        xs: &[Expr],
+        ys: &[Expr],
+        condition: Option<usize>,
+        outer: Option<usize>,
+    )
+        ensures { ClaimsOfPairs Equal (map (λ x. x.now) xs.now) (map (λ y. y.now) ys.now)
+            condition outer self.old self.new }
+    {
+        if xs.len() != ys.len() {
+            self.fail(AirError::Ragged {
+                len: ys.len(),
+                width: xs.len(),
+            });
+            return;
+        }
+        for (i, x) in xs.iter().enumerate() {
+            let label = self.index_label(outer, i);
+            self.equal(*x, ys[i], condition, label);
         }
     }
 }

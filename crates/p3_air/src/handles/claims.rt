@@ -1,13 +1,13 @@
 //! Groups: where claims are made, under conditions and a label.
-ghost use Rattle.std.specs.Prelude.{◌≡◌};
+ghost use Rattle.std.specs.Prelude.{◌≡◌, map};
 ghost use Rattle.air_core.specs.Texts.{element_text};
 ghost use Rattle.air_draft.specs.declared.claim.Claimed.TheVariants.{Zero, One, Bool, Equal};
 ghost use Rattle.air_draft.specs.declared.claim.Factor.TheVariants.{FirstRow, LastRow, Transition, Nonzero, Different};
 ghost use Rattle.p3_air.specs.HandleClaims.{ClaimsOf, ClaimsOfBoth, AddsCondition, ConditionOf, ConditionOfBoth, AddsLabel, AddsIndexLabel};
+ghost use Rattle.p3_air.specs.HandleLists.{ClaimsOfEach, ClaimsOfPairs};
 
 use crate::expressions::view::Expr;
 use crate::handles::constraints::Constraints;
-use air_core::AirError;
 use air_draft::{Claimed, Factor};
 
 /// Where claims are made: under conditions and a label, if there are any. It may be used for several claims; a further
@@ -85,34 +85,37 @@ impl<'c, 'a> Claims<'c, 'a> {
     }
 
     /// Claims that each is zero, the i-th under the label `label::[i]` where there is a label.
-    pub fn assert_zeros(&mut self, xs: &[Expr]) {
-        for (i, x) in xs.iter().enumerate() {
-            let label = self.c.index_label(self.label, i);
-            self.c.zero(*x, self.condition, label);
-        }
+    pub fn assert_zeros(&mut self, xs: &[Expr])
+        ensures same { self.new.c.ghost_name ≡ self.old.c.ghost_name }
+        ensures place { (self.new.condition ≡ self.old.condition) × (self.new.label ≡
+            self.old.label) }
+        ensures claims { ClaimsOfEach Zero (map (λ x. x.now) xs.now) self.old.condition
+            self.old.label self.old.c.now self.new.c.now }
+    {
+        self.c.zeros(xs, self.condition, self.label);
     }
 
     /// Claims that each is zero or one, the i-th under the label `label::[i]` where there is a label.
-    pub fn assert_bools(&mut self, xs: &[Expr]) {
-        for (i, x) in xs.iter().enumerate() {
-            let label = self.c.index_label(self.label, i);
-            self.c.bit(*x, self.condition, label);
-        }
+    pub fn assert_bools(&mut self, xs: &[Expr])
+        ensures same { self.new.c.ghost_name ≡ self.old.c.ghost_name }
+        ensures place { (self.new.condition ≡ self.old.condition) × (self.new.label ≡
+            self.old.label) }
+        ensures claims { ClaimsOfEach Bool (map (λ x. x.now) xs.now) self.old.condition
+            self.old.label self.old.c.now self.new.c.now }
+    {
+        self.c.bits(xs, self.condition, self.label);
     }
 
     /// Claims that both lists are equal, place by place; the i-th claim has the label `label::[i]` where there is a
     /// label. Lists of two lengths are refused in the end (`Ragged`).
-    pub fn assert_eq_arrays(&mut self, xs: &[Expr], ys: &[Expr]) {
-        if xs.len() != ys.len() {
-            self.c.fail(AirError::Ragged {
-                len: ys.len(),
-                width: xs.len(),
-            });
-        }
-        for (i, (x, y)) in xs.iter().zip(ys).enumerate() {
-            let label = self.c.index_label(self.label, i);
-            self.c.equal(*x, *y, self.condition, label);
-        }
+    pub fn assert_eq_arrays(&mut self, xs: &[Expr], ys: &[Expr])
+        ensures same { self.new.c.ghost_name ≡ self.old.c.ghost_name }
+        ensures place { (self.new.condition ≡ self.old.condition) × (self.new.label ≡
+            self.old.label) }
+        ensures claims { ClaimsOfPairs Equal (map (λ x. x.now) xs.now) (map (λ y. y.now) ys.now)
+            self.old.condition self.old.label self.old.c.now self.new.c.now }
+    {
+        self.c.equals(xs, ys, self.condition, self.label);
     }
 
     /// Where the condition isn't zero.

@@ -1,15 +1,15 @@
 //! Constraints in the making.
-ghost use Rattle.std.specs.Prelude.{◌≡◌, [], None};
+ghost use Rattle.std.specs.Prelude.{◌≡◌, [], None, map};
 ghost use Rattle.air_draft.specs.DraftEntries.{AddsColumns, AddsBoundary};
 ghost use Rattle.air_draft.specs.declared.claim.Claimed.TheVariants.{Zero, One, Bool, Equal};
 ghost use Rattle.air_draft.specs.declared.claim.Factor.TheVariants.{FirstRow, LastRow, Transition, Nonzero, Different};
 ghost use Rattle.p3_air.specs.HandleClaims.{ClaimsOf, ClaimsOfBoth, AddsCondition, ConditionOf, ConditionOfBoth, AddsLabel};
+ghost use Rattle.p3_air.specs.HandleLists.{ClaimsOfEach, ClaimsOfPairs};
 
 use crate::expressions::columns::{Column, Columns};
 use crate::expressions::nodes::Expressions;
 use crate::expressions::view::Expr;
 use crate::handles::claims::Claims;
-use air_core::AirError;
 use air_core::boundary::{BoundaryEnd, BoundaryPublic};
 use air_draft::{Factor, Notes};
 use std::alloc::Global;
@@ -119,18 +119,25 @@ impl<'a> Constraints<'a> {
     }
 
     /// Claims that each is zero.
-    pub fn assert_zeros(&mut self, xs: &[Expr]) {
-        self.everywhere().assert_zeros(xs);
+    pub fn assert_zeros(&mut self, xs: &[Expr])
+        ensures { ClaimsOfEach Zero (map (λ x. x.now) xs.now) None None self.old self.new }
+    {
+        self.zeros(xs, None, None);
     }
 
     /// Claims that each is zero or one.
-    pub fn assert_bools(&mut self, xs: &[Expr]) {
-        self.everywhere().assert_bools(xs);
+    pub fn assert_bools(&mut self, xs: &[Expr])
+        ensures { ClaimsOfEach Bool (map (λ x. x.now) xs.now) None None self.old self.new }
+    {
+        self.bits(xs, None, None);
     }
 
     /// Claims that both lists are equal, place by place. Lists of two lengths are refused in the end (`Ragged`).
-    pub fn assert_eq_arrays(&mut self, xs: &[Expr], ys: &[Expr]) {
-        self.everywhere().assert_eq_arrays(xs, ys);
+    pub fn assert_eq_arrays(&mut self, xs: &[Expr], ys: &[Expr])
+        ensures { ClaimsOfPairs Equal (map (λ x. x.now) xs.now) (map (λ y. y.now) ys.now) None
+            None self.old self.new }
+    {
+        self.equals(xs, ys, None, None);
     }
 
     /// Where claims hold on every row, without a label.

@@ -1,0 +1,7 @@
+use Rattle.std.proofs.Common.{map, take}
+use Rattle.air_draft.specs.declared.claim.Claimed.TheVariants.{Zero}
+use Rattle.p3_air.specs.HandleLists.{ClaimsOfEach}
+use Rattle.p3_air.proofs.handles.constraints.Constraints.zeros.Given as goal
+
+abbrev pub invariant-loop-i : goal.invariant-loop-i
+invariant-loop-i l = ClaimsOfEach Zero (map (λ x. x.now) (take l.i l.xs)) l.condition l.outer l.initial.self l.self
