@@ -61,17 +61,20 @@ label_more : (outer label : Option ℕ) (count : ℕ) (before : List (String Glo
 label_more None label count before b m e h none = (ap (λ (z : Constraints). z.notes.labels.items) h.0 ∙ e, h.1)
 label_more (Some outer) label count before b m e h none =
     let more = e.0 in let new = (h.1 none).2 in let s = new.0 in
-    let long : length b.notes.labels.items ≡ length before + count = ap length e.1 ∙ (length-append before more ∙ ap (λ k. length before + k) e.2) in ((
-      more ++ s ∷ [],
-      new.2 ∙ (ap (λ l. l ++ s ∷ []) e.1 ∙ append_assoc before more (s ∷ [])),
-      length_push more s ∙ ap (λ k. k + 1) e.2,
-      if_some (slice_get before outer) (λ t is.
-          map_push string_bytes more s
-          ∙ (ap (λ l. l ++ string_bytes s ∷ []) (at_some _ (slice_get before outer) t e.3 is)
-          ∙ (ap (λ w. map (λ i. text_under (Some t) (element_text i)) (range_with_len 0 count) ++ w ∷ [])
-          (new.1 ∙ ap (λ o. text_under o (element_text count)) (ap (λ l. slice_get l outer) e.1 ∙ slice_get_before before more outer t is))
-          ∙ sym (map-range_with_len_more (λ i. text_under (Some t) (element_text i)) 0 count count (omega arith))))),
-    ), (h.1 none).1 ∙ ap (λ k. Some k) long)
+    let long : length b.notes.labels.items ≡ length before + count = ap length e.1 ∙ (length-append before more ∙ ap (λ k. length before + k) e.2) in (
+      (
+        more ++ s ∷ [],
+        new.2 ∙ (ap (λ l. l ++ s ∷ []) e.1 ∙ append_assoc before more (s ∷ [])),
+        length_push more s ∙ ap (λ k. k + 1) e.2,
+        if_some (slice_get before outer) (λ t is.
+            map_push string_bytes more s
+            ∙ (ap (λ l. l ++ string_bytes s ∷ []) (at_some _ (slice_get before outer) t e.3 is)
+            ∙ (ap (λ w. map (λ i. text_under (Some t) (element_text i)) (range_with_len 0 count) ++ w ∷ [])
+            (new.1 ∙ ap (λ o. text_under o (element_text count)) (ap (λ l. slice_get l outer) e.1 ∙ slice_get_before before more outer t is))
+            ∙ sym (map-range_with_len_more (λ i. text_under (Some t) (element_text i)) 0 count count (omega arith))))),
+      ),
+      (h.1 none).1 ∙ ap (λ k. Some k) long,
+    )
 
 abbrev claim_of : Claimed → Option ℕ → Option ℕ → Claim
 claim_of x condition label = record { claimed = x; condition = condition; label = label }
@@ -93,10 +96,10 @@ claims_more list x condition outer label a b m c h l none only new =
     let labelled = label_more outer label (length list) a.notes.labels.items b m h.1 l none in (
       h.0,
       subst (λ k. AddsElementLabels outer k a.notes.labels.items c.notes.labels.items) (sym (length_push list x))
-      (subst (λ l. AddsElementLabels outer (length list + 1) a.notes.labels.items l) (sym (ap (λ (z : Constraints). z.notes.labels.items) only)) labelled.0),
+          (subst (λ l. AddsElementLabels outer (length list + 1) a.notes.labels.items l) (sym (ap (λ (z : Constraints). z.notes.labels.items) only)) labelled.0),
       new ∙ (ap (λ k. m.notes.claims.items ++ claim_of x condition k ∷ []) labelled.1
-      ∙ (ap (λ l. l ++ claim_of x condition (label_under outer (first + length list)) ∷ []) ((label_leaves (element_text (length list)) outer label b m l none).1 ∙ h.2)
-      ∙ (append_assoc a.notes.claims.items (claims_from condition outer first list) _ ∙ ap (λ l. a.notes.claims.items ++ l) (sym (claims_push condition outer first list x))))),
+          ∙ (ap (λ l. l ++ claim_of x condition (label_under outer (first + length list)) ∷ []) ((label_leaves (element_text (length list)) outer label b m l none).1 ∙ h.2)
+          ∙ (append_assoc a.notes.claims.items (claims_from condition outer first list) _ ∙ ap (λ l. a.notes.claims.items ++ l) (sym (claims_push condition outer first list x))))),
     )
 
 no_labels : (outer : Option ℕ) (ls : List (String Global)) → AddsElementLabels outer 0 ls ls
@@ -141,7 +144,7 @@ module _ (condition outer : Option ℕ) where
             ns ++ k.0.at.index ∷ [],
             numbers_more now xs ns i x k.0 lt is g.1 k.1,
             subst (λ v. AddsClaims v condition outer a c) (sym (map_push what ns k.0.at.index))
-            (claims_more (map what ns) (what k.0.at.index) condition outer label a b m c g.2 (subst (λ j. AddsIndexLabel (element_text j) outer label b m) (sym long) l) k.2.0 one.0 k.2.1),
+                (claims_more (map what ns) (what k.0.at.index) condition outer label a b m c g.2 (subst (λ j. AddsIndexLabel (element_text j) outer label b m) (sym long) l) k.2.0 one.0 k.2.1),
           ),
     )
 
@@ -162,6 +165,6 @@ module _ (condition outer : Option ℕ) where
             numbers_more now ys ns i y n.0 lty isy g.3 n.1,
             taken_alike now xs ys i ltx lty,
             subst (λ v. AddsClaims v condition outer a c) (sym (ap (map f) (zip_push ms ns k.0.at.index n.0.at.index (longx ∙ sym longy)) ∙ map_push f (zip ms ns) (k.0.at.index, n.0.at.index)))
-            (claims_more (map f (zip ms ns)) (what k.0.at.index n.0.at.index) condition outer label a b m c g.5 (subst (λ j. AddsIndexLabel (element_text j) outer label b m) (sym long) l) n.2.0 one.0 n.2.1),
+                (claims_more (map f (zip ms ns)) (what k.0.at.index n.0.at.index) condition outer label a b m c g.5 (subst (λ j. AddsIndexLabel (element_text j) outer label b m) (sym long) l) n.2.0 one.0 n.2.1),
           ),
     )
