@@ -87,13 +87,13 @@ root_here r basis p (root.Extension i) (Base t) m = absurd m
 root_here r basis p (root.Extension i) (Extension t) m = m.here
 
 -- a row of the permutation trace that is too far is refused by its offset
-module _ (n : ℕ) (over : Type 0) (e : AirError) where
-  entry_refused : (x : ExtEntry) → RefusesEntry x e → ExtMakingRefuses n over e
-  entry_refused (entry.Permutation o) h = subst (λ y. ExtMakingRefuses n over y) (sym h.1) h.0
+module _ (lacks : ℕ → ℕ → Type 0) (over : Type 0) (e : AirError) where
+  entry_refused : (x : ExtEntry) → RefusesEntry x e → ExtMakingRefuses lacks over e
+  entry_refused (entry.Permutation o) h = subst (λ y. ExtMakingRefuses lacks over y) (sym h.1) h.0
   entry_refused entry.Challenge h = absurd h
   entry_refused entry.PermutationValue h = absurd h
 
-  far_refused : {F EF : Type 0} (x : Option (SymbolicExpr (ExtLeaf F EF))) → RefusesAt x e → ExtMakingRefuses n over e
+  far_refused : {F EF : Type 0} (x : Option (SymbolicExpr (ExtLeaf F EF))) → RefusesAt x e → ExtMakingRefuses lacks over e
   far_refused None h = absurd h
   far_refused (Some (node.Leaf (leaf.Base i))) h = absurd h
   far_refused (Some (node.Leaf (leaf.ExtVariable v))) h = entry_refused v.entry h
@@ -104,6 +104,6 @@ module _ (n : ℕ) (over : Type 0) (e : AirError) where
   far_refused (Some (node.Mul x y d)) h = absurd h
 
   pub flat_refused : {F EF : Type 0} (basis : Basis F EF) (p : ExtNodes F EF) (roots : List (Root F EF))
-      → (e ≡ Memory) ⊎ ReachesFarRow basis p roots e → ExtMakingRefuses n over e
-  flat_refused basis p roots (inl is) = subst (λ y. ExtMakingRefuses n over y) (sym is) tt
+      → (e ≡ Memory) ⊎ ReachesFarRow basis p roots e → ExtMakingRefuses lacks over e
+  flat_refused basis p roots (inl is) = subst (λ y. ExtMakingRefuses lacks over y) (sym is) tt
   flat_refused basis p roots (inr far) = far_refused (slice_get p.nodes far.number) far.far

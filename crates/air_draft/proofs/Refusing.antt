@@ -1,6 +1,7 @@
 -- What is refused of a part is refused of the whole.
-use Rattle.std.proofs.Common.{◌≡◌, ◌<◌, ◌≤◌, ◌+◌, ◌-◌, ℕ, zero, suc, List, [], ◌∷◌, ◌++◌, get_or, take, length, map, max, sym, subst, arith}
-use Rattle.std.proofs.Math.Nat.{le-max_left, le-max_right, max-le}
+use Rattle.std.proofs.Common.{◌≡◌, ◌<◌, ◌≤◌, ◌+◌, ◌-◌, ℕ, zero, suc, List, [], ◌∷◌, ◌++◌, get_or, take, length, map, refl, sym, subst, arith}
+use Rattle.std.proofs.Math.Nat.{le-max_left, le-max_right}
+use Rattle.std.proofs.lemmas.Option.{slice_get-get_or}
 use Rattle.air_field.specs.Term.{Leaf, Term}
 use Rattle.air_field.specs.Degree.{degree_by, greatest_degree, cached_weight}
 use Rattle.air_field.specs.Part.{Part, whole, in_mul_left, in_mul_right}
@@ -12,32 +13,43 @@ use Rattle.air_core.specs.declared.errors.AirError.{AirError}
 use Rattle.air_core.specs.declared.errors.AirError.TheVariants.{Memory, DegreeOverflow, IndexPastTotal}
 use Rattle.air_draft.specs.DraftTerms.{term_at, power_term, terms_after, under_conditions}
 use Rattle.air_draft.specs.Making.{MakingRefuses, TermOverflows, SomeOverflows}
+use Rattle.air_draft.specs.Numbers.{AtSome, RootLacks, AnyRootLacks}
 use Rattle.air_draft.specs.ExtDraftTerms.{under_lifted, asserted_term}
 use Rattle.air_draft.specs.declared.claim.Factor.{Factor}
+use Rattle.air_draft.specs.declared.claim.Claimed.{Claimed}
+use Rattle.air_draft.specs.declared.claim.Claimed.TheVariants as claimed
+use Rattle.air_draft.specs.declared.claim.ExtClaimed.{ExtClaimed}
 
--- it is refused where there are more steps, and where a degree may be past the limit if it was
-pub refuses_more : {p q : Type 0} (n m : ℕ) (e : AirError) → n ≤ m → (p → q) → MakingRefuses n p e → MakingRefuses m q e
-refuses_more n m Memory le w h = tt
-refuses_more n m DegreeOverflow le w h = w h
-refuses_more n m (IndexPastTotal index total) le w h = (omega (arith, le, h.0), h.1)
-refuses_more n m _ le w h = absurd h
-
--- the greater of two numbers, one of which is greater
-pub max-le_max : (b m n : ℕ) → m ≤ n → max b m ≤ max b n
-max-le_max b m n le = max-le (le-max_left b n) (omega (arith, le, le-max_right b n))
-
-pub max_left-le_max : (m n k : ℕ) → m ≤ n → max m k ≤ max n k
-max_left-le_max m n k le = max-le (omega (arith, le, le-max_left n k)) (le-max_right n k)
+-- it is refused where more may be lacking, and where a degree may be past the limit if it was
+pub refuses_more : {p q : Type 0} (lacks more : ℕ → ℕ → Type 0) (e : AirError) → ((i n : ℕ) → lacks i n → more i n) → (p → q)
+    → MakingRefuses lacks p e → MakingRefuses more q e
+refuses_more lacks more Memory w over h = tt
+refuses_more lacks more DegreeOverflow w over h = over h
+refuses_more lacks more (IndexPastTotal index total) w over h = w index total h
+refuses_more lacks more _ w over h = absurd h
 
 -- memory may be refused anywhere
-pub memory_refuses : (p : Type 0) (n : ℕ) (e : AirError) → e ≡ Memory → MakingRefuses n p e
-memory_refuses p n e is = subst (λ x. MakingRefuses n p x) (sym is) tt
+pub memory_refuses : (p : Type 0) (lacks : ℕ → ℕ → Type 0) (e : AirError) → e ≡ Memory → MakingRefuses lacks p e
+memory_refuses p lacks e is = subst (λ x. MakingRefuses lacks p x) (sym is) tt
 
 -- what a ring refuses
-pub ring_refuses : {F : Type 0} (refuses : RingError → Term F → Type 0) (n : ℕ) (e : RingError) (t : Term F)
-    → refuses e t → MakingRefuses n (refuses ring.DegreeOverflow t) (air_error e)
-ring_refuses refuses n ring.Memory t h = tt
-ring_refuses refuses n ring.DegreeOverflow t h = h
+pub ring_refuses : {F : Type 0} (refuses : RingError → Term F → Type 0) (lacks : ℕ → ℕ → Type 0) (e : RingError) (t : Term F)
+    → refuses e t → MakingRefuses lacks (refuses ring.DegreeOverflow t) (air_error e)
+ring_refuses refuses lacks ring.Memory t h = tt
+ring_refuses refuses lacks ring.DegreeOverflow t h = h
+
+-- what is lacking at a place is lacking somewhere
+pub at_some : {A : Type 0} (P : ℕ → A → Type 0) (xs : List A) (i : ℕ) (d : A) → i < length xs → P i (get_or xs i d) → AtSome P xs
+at_some P xs i d lt h = (i, get_or xs i d, slice_get-get_or xs i d lt, h)
+
+-- and of claims that aren't over the extension only base steps are
+pub base_lacks : (base steps : ℕ) (factors : List Factor) (c : Claimed) → ((x : ExtClaimed) → c ≡ claimed.Extension x → ⊥) → (i n : ℕ)
+    → RootLacks base factors c i n → AnyRootLacks base steps factors c i n
+base_lacks base steps factors (claimed.Zero x) not i n h = h
+base_lacks base steps factors (claimed.One x) not i n h = h
+base_lacks base steps factors (claimed.Bool x) not i n h = h
+base_lacks base steps factors (claimed.Equal x y) not i n h = h
+base_lacks base steps factors (claimed.Extension x) not i n h = absurd (not x refl)
 
 -- a part of a term is one of it under conditions
 pub Part-under : {F : Type 0} (at : ℕ → Term F) (cs : List Factor) (u t : Term F) → Part u t → Part u (under_conditions at cs t)

@@ -1,5 +1,5 @@
 -- What the calls that write an entry change of notes and of a draft.
-use Rattle.std.specs.Prelude.{◌≡◌, ◌⊎◌, ◌+◌, ℕ, List, [], ◌∷◌, ◌++◌, Option, None, Some, IsSome, unwrap_or, slice_get}
+use Rattle.std.specs.Prelude.{◌≡◌, ◌⊎◌, ◌+◌, ◌<◌, ◌^◌, ℕ, List, [], ◌∷◌, ◌++◌, Option, None, Some, IsSome, unwrap_or, slice_get}
 use Rattle.std.specs.Prelude.{String, string_bytes, Vec}
 use Rattle.std.specs.Global.{Global}
 use Rattle.air_core.specs.Texts.{colons}
@@ -63,9 +63,10 @@ pub record WritesLabel (text : List ℕ) (a b : Notes) : Type 0 where
   pub fault : NotesOnly Memory a.fault b.fault
   pub others : b ≡ record a { labels = b.labels; fault = b.fault }
 
--- as many columns more
+-- as many columns more; a fault is noted only where they are too many to count
 pub record AddsColumns (count : ℕ) (a b : Notes) : Type 0 where
   pub width : b.fault ≡ None → b.width ≡ a.width + count
+  pub within : a.width + count < 2 ^ 64 → b.fault ≡ a.fault
   pub fault : NotesOnly CountOverflow a.fault b.fault
   pub others : b ≡ record a { width = b.width; fault = b.fault }
 

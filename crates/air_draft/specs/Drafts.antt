@@ -1,5 +1,5 @@
 -- What the AIR of a draft declares.
-use Rattle.std.specs.Prelude.{◌≡◌, ◌⊎◌, ℕ, List, [], ◌++◌, map, Option, None, Some, String, slice_get, length, max}
+use Rattle.std.specs.Prelude.{◌≡◌, ◌⊎◌, ℕ, List, [], ◌++◌, map, Option, None, Some, String, slice_get, length}
 use Rattle.std.specs.Global.{Global}
 use Rattle.air_field.specs.Ring.{CommRing}
 use Rattle.air_field.specs.Term.{Term}
@@ -14,6 +14,7 @@ use Rattle.air_draft.specs.declared.fixed.Fixed.{Fixed}
 use Rattle.air_draft.specs.declared.draft.Draft.{Draft}
 use Rattle.air_draft.specs.DraftTerms.{step_terms, term_at, claim_term}
 use Rattle.air_draft.specs.Making.{MakingRefuses, SomeOverflows}
+use Rattle.air_draft.specs.Numbers.{StepsLack, ClaimsLack}
 
 -- what an AIR has beside its constraints, of what is noted and what is fixed
 abbrev pub beside_from : {F : Type 0} → Notes → Fixed F → Beside F
@@ -59,11 +60,13 @@ claim_labels labels claims = map (λ c. claim_label labels c.label) claims
 abbrev pub DraftOverflows : {F : Type 0} → CommRing F → F → Draft F → Type 0
 DraftOverflows r one d = SomeOverflows (draft_terms r one d ++ claim_terms r one d)
 
--- below this are the numbers of the draft's steps and the places of its constants
-abbrev pub number_bound : {F : Type 0} → Draft F → ℕ
-number_bound d = max (length d.steps.items) (length d.fixed.constants.items)
+-- the draft names a number that no step before has, or the place of no constant: this index, of so many
+abbrev pub DraftLacks : {F : Type 0} → Draft F → ℕ → ℕ → Type 0
+DraftLacks d index total =
+    StepsLack (length d.fixed.constants.items) d.steps.items index total
+    ⊎ ClaimsLack (length d.steps.items) d.notes.conditions.items d.notes.claims.items index total
 
 -- Why a draft makes no AIR: what went wrong first while it was written. Only where nothing did, what the making of its
 -- expressions refuses.
 abbrev pub DraftRefuses : {F : Type 0} → CommRing F → F → Draft F → AirError → Type 0
-DraftRefuses r one d e = (d.notes.fault ≡ Some e) ⊎ ((d.notes.fault ≡ None) × MakingRefuses (number_bound d) (DraftOverflows r one d) e)
+DraftRefuses r one d e = (d.notes.fault ≡ Some e) ⊎ ((d.notes.fault ≡ None) × MakingRefuses (DraftLacks d) (DraftOverflows r one d) e)

@@ -1,6 +1,6 @@
 -- What the AIR of a draft with constraints over an extension declares.
 use Rattle.std.specs.List.{AllZip}
-use Rattle.std.specs.Prelude.{◌≡◌, ◌⊎◌, ◌<◌, ℕ, List, ◌++◌, map, None, Some, length, max}
+use Rattle.std.specs.Prelude.{◌≡◌, ◌⊎◌, ◌<◌, ℕ, List, ◌++◌, map, None, Some, length}
 use Rattle.air_field.specs.Ring.{CommRing, AlgebraOver, self_algebra}
 use Rattle.air_field.specs.Extension.{Basis}
 use Rattle.air_field.specs.Term.{Term}
@@ -9,8 +9,9 @@ use Rattle.air_core.specs.declared.errors.AirError.{AirError}
 use Rattle.air_core.specs.declared.errors.AirError.TheVariants.{RowOffset}
 use Rattle.air_recording.specs.Recorded.{RecordsTerm}
 use Rattle.air_draft.specs.DraftTerms.{term_at}
-use Rattle.air_draft.specs.Drafts.{draft_terms, number_bound}
+use Rattle.air_draft.specs.Drafts.{draft_terms}
 use Rattle.air_draft.specs.Making.{MakingRefuses, SomeOverflows}
+use Rattle.air_draft.specs.Numbers.{StepsLack, ExtStepsLack, AnyClaimsLack}
 use Rattle.air_draft.specs.ExtDraftTerms.{ext_step_terms, claim_assertion, asserted_term}
 use Rattle.air_draft.specs.declared.ext_draft.ExtDraft.{ExtDraft}
 
@@ -42,18 +43,21 @@ abbrev pub ExtDraftOverflows : {F EF : Type 0} → CommRing F → F → Basis F 
 ExtDraftOverflows r one basis d =
     SomeOverflows (base_terms_of r one d ++ (ext_terms_of r one basis d ++ map asserted_term (ext_declared_by r one basis d)))
 
--- below this are the numbers of the draft's steps of both kinds and the places of its constants
-abbrev pub ext_number_bound : {F EF : Type 0} → ExtDraft F EF → ℕ
-ext_number_bound d = max (number_bound d.base) (length d.steps.items)
+-- the draft names a number that no step before of its kind has, or the place of no constant
+abbrev pub ExtDraftLacks : {F EF : Type 0} → ExtDraft F EF → ℕ → ℕ → Type 0
+ExtDraftLacks d index total =
+    StepsLack (length d.base.fixed.constants.items) d.base.steps.items index total
+    ⊎ (ExtStepsLack (length d.base.steps.items) d.steps.items index total
+    ⊎ AnyClaimsLack (length d.base.steps.items) (length d.steps.items) d.base.notes.conditions.items d.base.notes.claims.items index total)
 
 -- why expressions of a draft aren't made; a row of the permutation trace that no window has is refused too
-abbrev pub ExtMakingRefuses : ℕ → Type 0 → AirError → Type 0
-ExtMakingRefuses n over (RowOffset offset) = 1 < offset
-ExtMakingRefuses n over e = MakingRefuses n over e
+abbrev pub ExtMakingRefuses : (ℕ → ℕ → Type 0) → Type 0 → AirError → Type 0
+ExtMakingRefuses lacks over (RowOffset offset) = 1 < offset
+ExtMakingRefuses lacks over e = MakingRefuses lacks over e
 
 -- Why a draft makes no AIR: what went wrong first while it was written. Only where nothing did, what the making of its
 -- expressions refuses.
 abbrev pub ExtDraftRefuses : {F EF : Type 0} → CommRing F → F → Basis F EF → ExtDraft F EF → AirError → Type 0
 ExtDraftRefuses r one basis d e =
     (d.base.notes.fault ≡ Some e)
-    ⊎ ((d.base.notes.fault ≡ None) × ExtMakingRefuses (ext_number_bound d) (ExtDraftOverflows r one basis d) e)
+    ⊎ ((d.base.notes.fault ≡ None) × ExtMakingRefuses (ExtDraftLacks d) (ExtDraftOverflows r one basis d) e)

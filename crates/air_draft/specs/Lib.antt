@@ -1,5 +1,6 @@
 pub mod DraftTerms
 pub mod Making
+pub mod Numbers
 pub mod DraftEntries
 pub mod Drafts
 pub mod ExtDraftTerms

@@ -4,7 +4,7 @@ ghost use Rattle.std.specs.Prelude.{◌≡◌, map, None, IfOk, IfErr, string_by
 ghost use Rattle.air_symbolic.specs.BaseLeaves.{base_reads};
 ghost use Rattle.air_symbolic.specs.Pools.{PoolMeans};
 ghost use Rattle.air_draft.specs.Making.{MakingRefuses};
-ghost use Rattle.air_draft.specs.Drafts.{beside_of, claim_terms, RecordsDraft, claim_label, claim_labels, DraftOverflows, number_bound, DraftRefuses};
+ghost use Rattle.air_draft.specs.Drafts.{beside_of, claim_terms, RecordsDraft, claim_label, claim_labels, DraftOverflows, DraftLacks, DraftRefuses};
 
 use crate::claim::Claim;
 use crate::draft::Draft;
@@ -61,7 +61,7 @@ impl<F: Field> Draft<F> {
             m.roots.items (claim_terms F.ring F.ONE self.now)) }
         ensures labels { IfOk result (λ m. map string_bytes m.labels.items
             ≡ claim_labels self.now.notes.labels.items self.now.notes.claims.items) }
-        ensures refused { IfErr result (MakingRefuses (number_bound self.now)
+        ensures refused { IfErr result (MakingRefuses (DraftLacks self.now)
             (DraftOverflows F.ring F.ONE self.now)) }
     {
         let alloc = *self.steps.allocator();

@@ -6,7 +6,7 @@ ghost use Rattle.air_symbolic.specs.Pools.{IsPool};
 ghost use Rattle.air_draft.specs.Making.{MakingRefuses};
 ghost use Rattle.air_draft.specs.Drafts.{beside_of, claim_labels};
 ghost use Rattle.air_draft.specs.ExtRoots.{RootMeans};
-ghost use Rattle.air_draft.specs.ExtDrafts.{ext_declared_by, RecordsExtDraft, ExtDraftOverflows, ext_number_bound, ExtDraftRefuses};
+ghost use Rattle.air_draft.specs.ExtDrafts.{ext_declared_by, RecordsExtDraft, ExtDraftOverflows, ExtDraftLacks, ExtDraftRefuses};
 
 use crate::air::claim_labels;
 use crate::ext_draft::ExtDraft;
@@ -34,7 +34,7 @@ impl<F: Field, EF: ExtensionField<F>> ExtDraft<F, EF> {
             (ext_declared_by F.ring F.ONE EF.basis self.now)) }
         ensures labels { IfOk result (λ m. map string_bytes m.labels.items
             ≡ claim_labels self.now.base.notes.labels.items self.now.base.notes.claims.items) }
-        ensures refused { IfErr result (MakingRefuses (ext_number_bound self.now)
+        ensures refused { IfErr result (MakingRefuses (ExtDraftLacks self.now)
             (ExtDraftOverflows F.ring F.ONE EF.basis self.now)) }
     {
         let alloc = *self.steps.allocator();

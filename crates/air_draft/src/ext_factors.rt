@@ -8,6 +8,7 @@ ghost use Rattle.air_symbolic.specs.Pools.{IsPool, PoolHas, PoolMeans, Grown};
 ghost use Rattle.air_draft.specs.DraftTerms.{term_at, factor_term};
 ghost use Rattle.air_draft.specs.ExtDraftTerms.{under_lifted};
 ghost use Rattle.air_draft.specs.Making.{MakingRefuses, TermOverflows};
+ghost use Rattle.air_draft.specs.Numbers.{Lacks, factor_names, factors_name};
 
 use crate::claim::Factor;
 use crate::elements::product;
@@ -35,7 +36,8 @@ fn times_lifted<F: Field, EF: ExtensionField<F>>(
         (mul_term t (factor_term (term_at bs) factor))) }
     ensures refused { IfErr result (λ e. (bs : List (Term F)) (t : Term F) →
         AllZip (BaseMeans F.ring EF.basis pool.old) base.now bs →
-        PoolMeans (ext_reads EF.basis) F.ring pool.old x t → MakingRefuses (length base.now)
+        PoolMeans (ext_reads EF.basis) F.ring pool.old x t →
+        MakingRefuses (Lacks (length base.now) (factor_names factor))
         (TermOverflows (mul_term t (factor_term (term_at bs) factor))) e) }
 {
     let right = make_factor(pool.base_mut(), base, factor)?;
@@ -61,7 +63,8 @@ pub(crate) fn make_ext_under<F: Field, EF: ExtensionField<F>>(
         (under_lifted (term_at bs) factors.now t)) }
     ensures refused { IfErr result (λ e. (bs : List (Term F)) (t : Term F) →
         AllZip (BaseMeans F.ring EF.basis pool.old) base.now bs →
-        PoolMeans (ext_reads EF.basis) F.ring pool.old x t → MakingRefuses (length base.now)
+        PoolMeans (ext_reads EF.basis) F.ring pool.old x t →
+        MakingRefuses (Lacks (length base.now) (factors_name factors.now))
         (TermOverflows (under_lifted (term_at bs) factors.now t)) e) }
 {
     let mut all = x;

@@ -1,5 +1,5 @@
 //! The expressions of a draft's claims of both kinds, made in the pool of its steps.
-ghost use Rattle.std.specs.Prelude.{ℕ, List, length, map, max, All, IfOk, IfErr};
+ghost use Rattle.std.specs.Prelude.{ℕ, List, length, map, All, IfOk, IfErr};
 ghost use Rattle.std.specs.List.{AllZip};
 ghost use Rattle.air_field.specs.Term.{Term};
 ghost use Rattle.air_symbolic.specs.ExtLeaves.{ext_reads, ext_grows};
@@ -7,6 +7,7 @@ ghost use Rattle.air_symbolic.specs.ExtPool.{BaseHas, BaseMeans};
 ghost use Rattle.air_symbolic.specs.Pools.{IsPool, PoolHas, PoolMeans, Grown};
 ghost use Rattle.air_draft.specs.DraftTerms.{term_at};
 ghost use Rattle.air_draft.specs.Making.{MakingRefuses, TermOverflows, SomeOverflows, MadeAt, RefusedAt};
+ghost use Rattle.air_draft.specs.Numbers.{Lacks, ext_claimed_names, AnyRootLacks, AnyClaimsLack};
 ghost use Rattle.air_draft.specs.ExtDraftTerms.{ext_claimed_term, claimed_assertion, claim_assertion, asserted_term};
 ghost use Rattle.air_draft.specs.ExtRoots.{RootMeans};
 
@@ -34,6 +35,7 @@ fn make_ext_claimed<F: Field, R: Algebra<F>>(
     ensures made { IfOk result (MadeAt R.has R.means ring.old ring.new made.now
         (λ at. ext_claimed_term F.ONE at claimed)) }
     ensures refused { IfErr result (RefusedAt R.means R.refuses ring.old made.now
+        (Lacks (length made.now) (ext_claimed_names claimed))
         (λ at. ext_claimed_term F.ONE at claimed)) }
 {
     match claimed {
@@ -63,9 +65,9 @@ fn make_any_root<F: Field, EF: ExtensionField<F>>(
     ensures refused { IfErr result (λ e. (bs ts : List (Term F)) →
         AllZip (BaseMeans F.ring EF.basis pool.old) base.now bs →
         AllZip (PoolMeans (ext_reads EF.basis) F.ring pool.old) made.now ts →
-        MakingRefuses (max (length base.now) (length made.now)) (TermOverflows
-        (asserted_term (claimed_assertion F.ONE (term_at bs) (term_at ts) factors.now claimed)))
-        e) }
+        MakingRefuses (AnyRootLacks (length base.now) (length made.now) factors.now claimed)
+        (TermOverflows (asserted_term
+        (claimed_assertion F.ONE (term_at bs) (term_at ts) factors.now claimed))) e) }
 {
     match claimed {
         Claimed::Extension(of) => {
@@ -101,7 +103,8 @@ pub(crate) fn make_any_roots<F: Field, EF: ExtensionField<F>>(
     ensures refused { IfErr result (λ e. (bs ts : List (Term F)) →
         AllZip (BaseMeans F.ring EF.basis pool.old) base.now bs →
         AllZip (PoolMeans (ext_reads EF.basis) F.ring pool.old) made.now ts →
-        MakingRefuses (max (length base.now) (length made.now)) (SomeOverflows (map asserted_term
+        MakingRefuses (AnyClaimsLack (length base.now) (length made.now) conditions.now claims.now)
+        (SomeOverflows (map asserted_term
         (map (claim_assertion F.ONE (term_at bs) (term_at ts) conditions.now) claims.now))) e) }
 {
     let mut roots = Vec::with_capacity(alloc, claims.len())?;

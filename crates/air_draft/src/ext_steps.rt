@@ -1,5 +1,5 @@
 //! The expressions of a draft's steps over the extension, made in a pool.
-ghost use Rattle.std.specs.Prelude.{ℕ, List, length, max, All, IfOk, IfErr};
+ghost use Rattle.std.specs.Prelude.{◌≡◌, ℕ, List, length, All, IfOk, IfErr};
 ghost use Rattle.std.specs.List.{AllZip};
 ghost use Rattle.air_field.specs.Term.{Term};
 ghost use Rattle.air_symbolic.specs.ExtLeaves.{ext_reads, ext_grows};
@@ -7,6 +7,7 @@ ghost use Rattle.air_symbolic.specs.ExtPool.{BaseHas, BaseMeans};
 ghost use Rattle.air_symbolic.specs.Pools.{IsPool, PoolHas, PoolMeans, Grown};
 ghost use Rattle.air_draft.specs.DraftTerms.{term_at};
 ghost use Rattle.air_draft.specs.Making.{MakingRefuses, TermOverflows, SomeOverflows};
+ghost use Rattle.air_draft.specs.Numbers.{ExtStepLacks, ExtStepsLack};
 ghost use Rattle.air_draft.specs.ExtDraftTerms.{ext_step_term, ext_step_terms};
 
 use crate::ext_step::ExtStep;
@@ -36,7 +37,7 @@ fn make_ext_step<F: Field, EF: ExtensionField<F>>(
         (ext_step_term EF.basis (term_at bs) (term_at ts) step)) }
     ensures refused { IfErr result (λ e. (bs ts : List (Term F)) →
         AllZip (PoolMeans (ext_reads EF.basis) F.ring pool.old) made.now ts →
-        MakingRefuses (max (length base.now) (length made.now))
+        MakingRefuses (ExtStepLacks (length base.now) (length made.now) step)
         (TermOverflows (ext_step_term EF.basis (term_at bs) (term_at ts) step)) e) }
 {
     match step {
@@ -69,7 +70,7 @@ pub(crate) fn make_ext_steps<F: Field, EF: ExtensionField<F>>(
         (ext_step_terms EF.basis (term_at bs) steps.now)) }
     ensures refused { IfErr result (λ e. (bs : List (Term F)) →
         AllZip (BaseMeans F.ring EF.basis pool.old) base.now bs →
-        MakingRefuses (max (length base.now) (length steps.now))
+        MakingRefuses (ExtStepsLack (length base.now) steps.now)
         (SomeOverflows (ext_step_terms EF.basis (term_at bs) steps.now)) e) }
 {
     let mut made = Vec::with_capacity(alloc, steps.len())?;

@@ -7,6 +7,7 @@ ghost use Rattle.air_symbolic.specs.PoolRefusals.{PoolRefuses};
 ghost use Rattle.air_symbolic.specs.Pools.{IsPool, PoolHas, PoolMeans, Grown};
 ghost use Rattle.air_draft.specs.DraftTerms.{term_at, factor_term, under_conditions, factors_of};
 ghost use Rattle.air_draft.specs.Making.{MakingRefuses, TermOverflows, MadeAt, RefusedAt};
+ghost use Rattle.air_draft.specs.Numbers.{Lacks, factor_names, factors_name};
 
 use crate::claim::Factor;
 use crate::elements::product;
@@ -29,7 +30,7 @@ pub(crate) fn make_factor<F: Field>(
     ensures made { IfOk result (MadeAt (PoolHas base_reads) (PoolMeans base_reads F.ring) pool.old
         pool.new made.now (λ at. factor_term at factor)) }
     ensures refused { IfErr result (RefusedAt (PoolMeans base_reads F.ring) PoolRefuses pool.old
-        made.now (λ at. factor_term at factor)) }
+        made.now (Lacks (length made.now) (factor_names factor)) (λ at. factor_term at factor)) }
 {
     match factor {
         Factor::FirstRow => make_leaf(pool, BaseLeaf::IsFirstRow),
@@ -58,7 +59,8 @@ fn times_factor<F: Field>(
         PoolMeans base_reads F.ring pool.new z (mul_term (factor_term (term_at ts) factor) t)) }
     ensures refused { IfErr result (λ e. (ts : List (Term F)) (t : Term F) →
         AllZip (PoolMeans base_reads F.ring pool.old) made.now ts →
-        PoolMeans base_reads F.ring pool.old x t → MakingRefuses (length made.now)
+        PoolMeans base_reads F.ring pool.old x t →
+        MakingRefuses (Lacks (length made.now) (factor_names factor))
         (TermOverflows (mul_term (factor_term (term_at ts) factor) t)) e) }
 {
     let left = make_factor(pool, made, factor)?;
@@ -83,7 +85,8 @@ pub(crate) fn make_under<F: Field>(
         PoolMeans base_reads F.ring pool.new z (under_conditions (term_at ts) factors.now t))) }
     ensures refused { IfErr result (λ e. (ts : List (Term F)) (t : Term F) →
         AllZip (PoolMeans base_reads F.ring pool.old) made.now ts →
-        PoolMeans base_reads F.ring pool.old x t → MakingRefuses (length made.now)
+        PoolMeans base_reads F.ring pool.old x t →
+        MakingRefuses (Lacks (length made.now) (factors_name factors.now))
         (TermOverflows (under_conditions (term_at ts) factors.now t)) e) }
 {
     let mut all = x;

@@ -8,6 +8,7 @@ ghost use Rattle.air_field.specs.declared.errors.RingError.TheVariants.{DegreeOv
 ghost use Rattle.air_builder.specs.Builders.{less_one_term};
 ghost use Rattle.air_draft.specs.DraftTerms.{term_at, operand_term, power_term};
 ghost use Rattle.air_draft.specs.Making.{MakingRefuses, MadeAt, RefusedAt};
+ghost use Rattle.air_draft.specs.Numbers.{Lacks, IsEither, operand_names, operands_name};
 
 use crate::elements::power_from;
 use crate::step::Operand;
@@ -17,7 +18,7 @@ use air_field::{Algebra, Field};
 /// What has this number.
 pub(crate) fn found<E: Copy>(made: &[E], number: usize) -> Result<E, AirError>
     ensures found { IfOk result (λ x. slice_get made.now number ≡ Some x) }
-    ensures refused { IfErr result (MakingRefuses (length made.now) ⊥) }
+    ensures refused { IfErr result (MakingRefuses (Lacks (length made.now) (λ i. i ≡ number)) ⊥) }
 {
     match made.get(number) {
         Some(x) => Ok(*x),
@@ -36,7 +37,7 @@ pub(crate) fn element<F: Field, R: Algebra<F>>(
 ) -> Result<R::Elem, AirError>
     requires all_in { All (R.has ring.now) made.now }
     ensures made { IfOk result (MadeAt R.has R.means ring.now ring.now made.now (λ at. at number)) }
-    ensures refused { IfErr result (MakingRefuses (length made.now) ⊥) }
+    ensures refused { IfErr result (MakingRefuses (Lacks (length made.now) (λ i. i ≡ number)) ⊥) }
 {
     let _ring = ring;
     found(made, number)
@@ -54,7 +55,7 @@ fn operand<F: Field, R: Algebra<F>>(
     ensures made { IfOk result (MadeAt R.has R.means ring.old ring.new made.now
         (λ at. operand_term F.ring at x)) }
     ensures refused { IfErr result (RefusedAt R.means R.refuses ring.old made.now
-        (λ at. operand_term F.ring at x)) }
+        (Lacks (length made.now) (operand_names x)) (λ at. operand_term F.ring at x)) }
 {
     match x {
         Operand::Step(number) => element(ring, made, number),
@@ -81,7 +82,8 @@ fn operands<F: Field, R: Algebra<F>>(
     ensures refused { IfErr result (λ e. (ts : List (Term F)) (t : Term F) →
         AllZip (R.means ring.old) made.now ts → Part (operand_term F.ring (term_at ts) x) t →
         Part (operand_term F.ring (term_at ts) y) t →
-        MakingRefuses (length made.now) (R.refuses DegreeOverflow t) e) }
+        MakingRefuses (Lacks (length made.now) (operands_name x y)) (R.refuses DegreeOverflow t)
+        e) }
 {
     let x = operand(ring, made, x)?;
     let y = operand(ring, made, y)?;
@@ -101,6 +103,7 @@ pub(crate) fn sum_of<F: Field, R: Algebra<F>>(
     ensures made { IfOk result (MadeAt R.has R.means ring.old ring.new made.now
         (λ at. add_term (operand_term F.ring at x) (operand_term F.ring at y))) }
     ensures refused { IfErr result (RefusedAt R.means R.refuses ring.old made.now
+        (Lacks (length made.now) (operands_name x y))
         (λ at. add_term (operand_term F.ring at x) (operand_term F.ring at y))) }
 {
     let (left, right) = operands(ring, made, x, y)?;
@@ -120,6 +123,7 @@ pub(crate) fn difference_of<F: Field, R: Algebra<F>>(
     ensures made { IfOk result (MadeAt R.has R.means ring.old ring.new made.now
         (λ at. sub_term (operand_term F.ring at x) (operand_term F.ring at y))) }
     ensures refused { IfErr result (RefusedAt R.means R.refuses ring.old made.now
+        (Lacks (length made.now) (operands_name x y))
         (λ at. sub_term (operand_term F.ring at x) (operand_term F.ring at y))) }
 {
     let (left, right) = operands(ring, made, x, y)?;
@@ -139,6 +143,7 @@ pub(crate) fn product_of<F: Field, R: Algebra<F>>(
     ensures made { IfOk result (MadeAt R.has R.means ring.old ring.new made.now
         (λ at. mul_term (operand_term F.ring at x) (operand_term F.ring at y))) }
     ensures refused { IfErr result (RefusedAt R.means R.refuses ring.old made.now
+        (Lacks (length made.now) (operands_name x y))
         (λ at. mul_term (operand_term F.ring at x) (operand_term F.ring at y))) }
 {
     let (left, right) = operands(ring, made, x, y)?;
@@ -157,7 +162,7 @@ pub(crate) fn negative_of<F: Field, R: Algebra<F>>(
     ensures made { IfOk result (MadeAt R.has R.means ring.old ring.new made.now
         (λ at. neg_term (at x))) }
     ensures refused { IfErr result (RefusedAt R.means R.refuses ring.old made.now
-        (λ at. neg_term (at x))) }
+        (Lacks (length made.now) (λ i. i ≡ x)) (λ at. neg_term (at x))) }
 {
     let x = element(ring, made, x)?;
     Ok(ring.neg(x)?)
@@ -176,7 +181,7 @@ pub(crate) fn power_of<F: Field, R: Algebra<F>>(
     ensures made { IfOk result (MadeAt R.has R.means ring.old ring.new made.now
         (λ at. power_term F.ONE (at x) k)) }
     ensures refused { IfErr result (RefusedAt R.means R.refuses ring.old made.now
-        (λ at. power_term F.ONE (at x) k)) }
+        (Lacks (length made.now) (λ i. i ≡ x)) (λ at. power_term F.ONE (at x) k)) }
 {
     let x = element(ring, made, x)?;
     Ok(power_from(ring, x, k)?)
@@ -195,7 +200,7 @@ pub(crate) fn xor_of<F: Field, R: Algebra<F>>(
     ensures made { IfOk result (MadeAt R.has R.means ring.old ring.new made.now
         (λ at. xor_term (at x) (at y))) }
     ensures refused { IfErr result (RefusedAt R.means R.refuses ring.old made.now
-        (λ at. xor_term (at x) (at y))) }
+        (Lacks (length made.now) (IsEither x y)) (λ at. xor_term (at x) (at y))) }
 {
     let (x, y) = (element(ring, made, x)?, element(ring, made, y)?);
     Ok(ring.xor(x, y)?)
@@ -214,7 +219,7 @@ pub(crate) fn and_not_of<F: Field, R: Algebra<F>>(
     ensures made { IfOk result (MadeAt R.has R.means ring.old ring.new made.now
         (λ at. andn_term F.ONE (at x) (at y))) }
     ensures refused { IfErr result (RefusedAt R.means R.refuses ring.old made.now
-        (λ at. andn_term F.ONE (at x) (at y))) }
+        (Lacks (length made.now) (IsEither x y)) (λ at. andn_term F.ONE (at x) (at y))) }
 {
     let (x, y) = (element(ring, made, x)?, element(ring, made, y)?);
     Ok(ring.andn(x, y)?)
@@ -232,7 +237,7 @@ pub(crate) fn bool_check_of<F: Field, R: Algebra<F>>(
     ensures made { IfOk result (MadeAt R.has R.means ring.old ring.new made.now
         (λ at. bool_check_term F.ONE (at x))) }
     ensures refused { IfErr result (RefusedAt R.means R.refuses ring.old made.now
-        (λ at. bool_check_term F.ONE (at x))) }
+        (Lacks (length made.now) (λ i. i ≡ x)) (λ at. bool_check_term F.ONE (at x))) }
 {
     let x = element(ring, made, x)?;
     Ok(ring.bool_check(x)?)
@@ -250,7 +255,7 @@ pub(crate) fn less_one_of<F: Field, R: Algebra<F>>(
     ensures made { IfOk result (MadeAt R.has R.means ring.old ring.new made.now
         (λ at. less_one_term F.ONE (at x))) }
     ensures refused { IfErr result (RefusedAt R.means R.refuses ring.old made.now
-        (λ at. less_one_term F.ONE (at x))) }
+        (Lacks (length made.now) (λ i. i ≡ x)) (λ at. less_one_term F.ONE (at x))) }
 {
     let x = element(ring, made, x)?;
     let one = ring.constant(F::ONE)?;

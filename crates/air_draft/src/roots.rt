@@ -4,6 +4,7 @@ ghost use Rattle.std.specs.List.{AllZip};
 ghost use Rattle.air_field.specs.Term.{Term};
 ghost use Rattle.air_draft.specs.DraftTerms.{term_at, claimed_term, under_conditions, claim_term};
 ghost use Rattle.air_draft.specs.Making.{MakingRefuses, SomeOverflows, MadeAt, RefusedAt};
+ghost use Rattle.air_draft.specs.Numbers.{ClaimedLacks, RootLacks, ClaimsLack};
 ghost use Rattle.air_symbolic.specs.BaseLeaves.{base_reads, base_grows};
 ghost use Rattle.air_symbolic.specs.PoolRefusals.{PoolRefuses};
 ghost use Rattle.air_symbolic.specs.Pools.{IsPool, PoolHas, PoolMeans, Grown};
@@ -29,7 +30,7 @@ fn make_claimed<F: Field, R: Algebra<F>>(
     ensures made { IfOk result (MadeAt R.has R.means ring.old ring.new made.now
         (λ at. claimed_term F.ONE at claimed)) }
     ensures refused { IfErr result (RefusedAt R.means R.refuses ring.old made.now
-        (λ at. claimed_term F.ONE at claimed)) }
+        (ClaimedLacks (length made.now) claimed) (λ at. claimed_term F.ONE at claimed)) }
 {
     match claimed {
         Claimed::Zero(x) => element(ring, made, x),
@@ -56,7 +57,8 @@ pub(crate) fn make_root<F: Field>(
     ensures made { IfOk result (MadeAt (PoolHas base_reads) (PoolMeans base_reads F.ring) pool.old
         pool.new made.now (λ at. under_conditions at factors.now (claimed_term F.ONE at claimed))) }
     ensures refused { IfErr result (RefusedAt (PoolMeans base_reads F.ring) PoolRefuses pool.old
-        made.now (λ at. under_conditions at factors.now (claimed_term F.ONE at claimed))) }
+        made.now (RootLacks (length made.now) factors.now claimed)
+        (λ at. under_conditions at factors.now (claimed_term F.ONE at claimed))) }
 {
     let x = make_claimed(pool, made, claimed)?;
     make_under(pool, made, factors, x)
@@ -78,7 +80,8 @@ pub(crate) fn make_roots<F: Field>(
         AllZip (PoolMeans base_reads F.ring pool.new) roots.items
         (map (claim_term F.ONE (term_at ts) conditions.now) claims.now)) }
     ensures refused { IfErr result (λ e. (ts : List (Term F)) →
-        AllZip (PoolMeans base_reads F.ring pool.old) made.now ts → MakingRefuses (length made.now)
+        AllZip (PoolMeans base_reads F.ring pool.old) made.now ts →
+        MakingRefuses (ClaimsLack (length made.now) conditions.now claims.now)
         (SomeOverflows (map (claim_term F.ONE (term_at ts) conditions.now) claims.now)) e) }
 {
     let mut roots = Vec::with_capacity(alloc, claims.len())?;

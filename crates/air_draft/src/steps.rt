@@ -1,5 +1,5 @@
 //! The expressions of a draft's steps, made in a pool.
-ghost use Rattle.std.specs.Prelude.{◌≡◌, ◌≤◌, ℕ, List, length, max, slice_get, All, Some, IfOk, IfErr};
+ghost use Rattle.std.specs.Prelude.{◌≡◌, ◌≤◌, ℕ, List, length, slice_get, All, Some, IfOk, IfErr};
 ghost use Rattle.std.specs.List.{AllZip};
 ghost use Rattle.air_field.specs.Algebra.{Made};
 ghost use Rattle.air_field.specs.Term.{Term};
@@ -7,6 +7,7 @@ ghost use Rattle.air_symbolic.specs.BaseLeaves.{base_term, base_reads, base_grow
 ghost use Rattle.air_symbolic.specs.Pools.{IsPool, PoolHas, PoolMeans, Grown};
 ghost use Rattle.air_draft.specs.DraftTerms.{term_at, constant_term, step_term, step_terms};
 ghost use Rattle.air_draft.specs.Making.{MakingRefuses, TermOverflows, SomeOverflows, MadeAt};
+ghost use Rattle.air_draft.specs.Numbers.{Lacks, StepLacks, StepsLack};
 
 use crate::numbered::{
     and_not_of, difference_of, found, negative_of, power_of, product_of, sum_of, xor_of,
@@ -39,7 +40,8 @@ fn make_constant<F: Field>(
     ensures grown { Grown base_grows base_reads pool.old pool.new }
     ensures made { IfOk result (Made (PoolHas base_reads) (PoolMeans base_reads F.ring)
         (constant_term (slice_get constants.now place)) pool.new) }
-    ensures refused { IfErr result (MakingRefuses (length constants.now) ⊥) }
+    ensures refused { IfErr result (MakingRefuses
+        (Lacks (length constants.now) (λ i. i ≡ place)) ⊥) }
 {
     let c = found(constants, place)?;
     make_leaf(pool, BaseLeaf::Constant(c))
@@ -59,7 +61,7 @@ fn make_step<F: Field>(
         pool.new made.now (λ at. step_term F.ring F.ONE constants.now at step)) }
     ensures refused { IfErr result (λ e. (ts : List (Term F)) →
         AllZip (PoolMeans base_reads F.ring pool.old) made.now ts →
-        MakingRefuses (max (length made.now) (length constants.now))
+        MakingRefuses (StepLacks (length constants.now) (length made.now) step)
         (TermOverflows (step_term F.ring F.ONE constants.now (term_at ts) step)) e) }
 {
     match step {
@@ -95,7 +97,7 @@ pub(crate) fn make_steps<F: Field>(
     ensures grown { Grown base_grows base_reads pool.old pool.new }
     ensures made { IfOk result (λ made. AllZip (PoolMeans base_reads F.ring pool.new) made.items
         (step_terms F.ring F.ONE constants.now steps.now)) }
-    ensures refused { IfErr result (MakingRefuses (max (length steps.now) (length constants.now))
+    ensures refused { IfErr result (MakingRefuses (StepsLack (length constants.now) steps.now)
         (SomeOverflows (step_terms F.ring F.ONE constants.now steps.now))) }
 {
     let mut made = Vec::with_capacity(alloc, steps.len())?;

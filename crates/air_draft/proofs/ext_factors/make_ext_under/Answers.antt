@@ -1,4 +1,4 @@
-use Rattle.std.proofs.Common.{◌+◌, get_or, length, subst, sym, take, arith}
+use Rattle.std.proofs.Common.{◌+◌, get_or, length, subst, sym, take}
 use Rattle.std.proofs.lemmas.List.{take_all}
 use Rattle.std.proofs.lemmas.Result.{err_from_is_err_and}
 use Rattle.air_field.specs.Part.{Part}
@@ -11,8 +11,9 @@ use Rattle.air_draft.specs.DraftTerms.{term_at, factor_term}
 use Rattle.air_draft.specs.ExtDraftTerms.{under_lifted}
 use Rattle.air_draft.specs.Making.{TermOverflows}
 use Rattle.air_draft.specs.declared.claim.Factor.TheVariants.{FirstRow}
+use Rattle.air_draft.specs.Numbers.{Lacks, factor_names, factors_name}
 use Rattle.air_draft.proofs.NumberedTerms.{base_mean_still, under_lifted-more}
-use Rattle.air_draft.proofs.Refusing.{refuses_more, Part-lifted_first}
+use Rattle.air_draft.proofs.Refusing.{at_some, refuses_more, Part-lifted_first}
 use Rattle.air_draft.proofs.ext_factors.make_ext_under.Goals as goal
 
 pub times_lifted-requires-clause-pool : goal.times_lifted-requires-clause-pool
@@ -64,5 +65,6 @@ returns-in_err-all-clause-refused g c =
     let more = under_lifted-more at factors i t c.loop-factor-test.true in
     let part = subst (λ u. Part u last) more (Part-lifted_first at factors (i + 1) t) in
     let then = base_mean_still ring basis _ _ c.args.base.now bs h.grown base in
-    refuses_more {p = TermOverflows now} {q = TermOverflows last} n n _ (omega arith) (λ over. laws.refuses_whole DegreeOverflow now last part over)
+    refuses_more {p = TermOverflows now} {q = TermOverflows last} (Lacks n (factor_names item)) (Lacks n (factors_name factors)) _
+    (λ index total h. (at_some (λ k c. factor_names c index) factors i FirstRow c.loop-factor-test.true h.0, h.1, h.2)) (λ over. laws.refuses_whole DegreeOverflow now last part over)
     (c.in_err-all.ensures.refused bs _ then (h.made bs t base m)))

@@ -1,5 +1,4 @@
-use Rattle.std.proofs.Common.{length, max, subst, sym}
-use Rattle.std.proofs.Math.Nat.{le-max_left, le-max_right}
+use Rattle.std.proofs.Common.{inl, inr, length, subst, sym}
 use Rattle.std.specs.List.{AllZip}
 use Rattle.std.proofs.lemmas.Result.{err_from_is_err_and}
 use Rattle.air_field.specs.Part.{whole}
@@ -12,8 +11,10 @@ use Rattle.air_draft.specs.DraftTerms.{term_at, claimed_term, under_conditions}
 use Rattle.air_draft.specs.Making.{TermOverflows}
 use Rattle.air_draft.specs.ExtDraftTerms.{ext_claimed_term, under_lifted, claimed_assertion, asserted_term}
 use Rattle.air_draft.specs.ExtRoots.{RootMeans}
+use Rattle.air_draft.specs.declared.claim.Claimed.TheVariants as claimed
+use Rattle.air_draft.specs.Numbers.{Lacks, ext_claimed_names, factors_name, RootLacks, AnyRootLacks}
 use Rattle.air_draft.proofs.NumberedTerms.{base_mean_still, seen_from_base}
-use Rattle.air_draft.proofs.Refusing.{refuses_more, Part-lifted}
+use Rattle.air_draft.proofs.Refusing.{base_lacks, refuses_more, Part-lifted}
 use Rattle.air_draft.proofs.RootsMean.{base_asserted}
 use Rattle.air_draft.proofs.ext_roots.make_any_root.Goals as goal
 
@@ -32,7 +33,8 @@ returns-in_err-x-in-Extension-clause-refused g c =
     let t = ext_claimed_term g.F.Field.ONE (term_at ts) c.in-Extension.of in
     let last = under_lifted (term_at bs) c.args.factors.now t in
     let part = Part-lifted (term_at bs) c.args.factors.now t t whole in
-    refuses_more {p = TermOverflows t} {q = TermOverflows last} m (max n m) c.in_err-x-in-Extension.field-0.0 (le-max_right n m)
+    refuses_more {p = TermOverflows t} {q = TermOverflows last} (Lacks m (ext_claimed_names c.in-Extension.of))
+    (AnyRootLacks n m c.args.factors.now (claimed.Extension c.in-Extension.of)) c.in_err-x-in-Extension.field-0.0 (λ i t h. inl h)
     (λ h. laws.refuses_whole DegreeOverflow t last part h)
     (c.in_err-x-in-Extension.ensures.refused ts all))
 
@@ -44,7 +46,8 @@ returns-in_err-root-in-Extension-clause-refused g c =
     rw (p.1, p.2, c.in-Extension.is) (λ bs ts base all.
     let then = base_mean_still g.F.Field.ring g.EF.ExtensionField.basis _ _ c.args.base.now bs c.make_ext_claimed.ensures.extended base in
     let last = under_lifted (term_at bs) c.args.factors.now (ext_claimed_term g.F.Field.ONE (term_at ts) c.in-Extension.of) in
-    refuses_more {p = TermOverflows last} {q = TermOverflows last} n (max n m) c.in_err-root-in-Extension.field-0.0 (le-max_left n m) (λ h. h)
+    refuses_more {p = TermOverflows last} {q = TermOverflows last} (Lacks n (factors_name c.args.factors.now))
+    (AnyRootLacks n m c.args.factors.now (claimed.Extension c.in-Extension.of)) c.in_err-root-in-Extension.field-0.0 (λ i t h. inr h) (λ h. h)
     (c.in_err-root-in-Extension.ensures.refused bs _ then (c.in_ok-x-in-Extension.ensures.made.1 ts all)))
 
 pub returns-in_ok-root-in-Extension-clause-made : goal.returns-in_ok-root-in-Extension-clause-made
@@ -69,7 +72,9 @@ returns-in_err-root-in_default-clause-refused g c =
     let is = base_asserted g.F.Field.ONE (term_at bs) (term_at ts) c.args.factors.now c.args.claimed c.in_default.not-Extension in
     let last = under_conditions (term_at bs) c.args.factors.now (claimed_term g.F.Field.ONE (term_at bs) c.args.claimed) in
     let said = claimed_assertion g.F.Field.ONE (term_at bs) (term_at ts) c.args.factors.now c.args.claimed in
-    refuses_more {p = TermOverflows last} {q = TermOverflows (asserted_term said)} n (max n m) c.in_err-root-in_default.field-0.0 (le-max_left n m)
+    refuses_more {p = TermOverflows last} {q = TermOverflows (asserted_term said)} (RootLacks n c.args.factors.now c.args.claimed)
+    (AnyRootLacks n m c.args.factors.now c.args.claimed) c.in_err-root-in_default.field-0.0
+    (base_lacks n m c.args.factors.now c.args.claimed c.in_default.not-Extension)
     (λ h. subst (λ a. TermOverflows (asserted_term a)) (sym is) h)
     (c.in_err-root-in_default.ensures.refused bs seen))
 

@@ -1,16 +1,17 @@
-use Rattle.std.proofs.Common.{None, get_or, length, map, max, take, subst, arith}
+use Rattle.std.proofs.Common.{None, get_or, length, map, take, subst}
 use Rattle.std.specs.List.{AllZip}
 use Rattle.std.proofs.lemmas.List.{take_all}
 use Rattle.std.proofs.lemmas.Result.{err_from_is_err_and}
 use Rattle.air_symbolic.specs.laws.ExtPool.{ext_pool_laws, ext_keeps_base}
-use Rattle.air_draft.specs.DraftTerms.{term_at}
+use Rattle.air_draft.specs.DraftTerms.{term_at, factors_of}
 use Rattle.air_draft.specs.Making.{TermOverflows, SomeOverflows}
 use Rattle.air_draft.specs.ExtDraftTerms.{claim_assertion, asserted_term}
 use Rattle.air_draft.specs.ExtRoots.{RootMeans}
 use Rattle.air_draft.specs.declared.claim.Claim.{Claim}
 use Rattle.air_draft.specs.declared.claim.Claimed.TheVariants.{Zero}
+use Rattle.air_draft.specs.Numbers.{AnyRootLacks, AnyClaimsLack}
 use Rattle.air_draft.proofs.NumberedTerms.{AllZip-more, all_mean_still, base_mean_still}
-use Rattle.air_draft.proofs.Refusing.{refuses_more, overflows_asserted}
+use Rattle.air_draft.proofs.Refusing.{at_some, refuses_more, overflows_asserted}
 use Rattle.air_draft.proofs.RootsMean.{roots_mean_still}
 use Rattle.air_draft.proofs.ext_roots.make_any_roots.Goals as goal
 
@@ -30,7 +31,8 @@ returns-in_err-root-clause-refused g c =
     let basis = g.EF.ExtensionField.basis in
     let laws = ext_pool_laws g.met.EF.ExtensionField.laws in
     let none : Claim = record { claimed = Zero 0; condition = None; label = None } in
-    let n = max (length c.args.base.now) (length c.args.made.now) in
+    let n = length c.args.base.now in
+    let m = length c.args.made.now in
     let p = err_from_is_err_and c.from_residual-in_err-root.result c.from_residual-in_err-root.ensures.1 in
     rw (p.1, p.2) (λ bs ts base all.
     let claims = c.args.claims.now in
@@ -39,8 +41,12 @@ returns-in_err-root-clause-refused g c =
     let base_then = base_mean_still ring basis _ _ c.args.base.now bs grown base in
     let then = all_mean_still laws _ _ c.args.made.now ts grown all in
     let refused = rw c.factors_of-factors.ensures at (c.in_err-root.ensures.refused bs ts base_then then) in
-    let said = asserts (get_or claims c.loop-claim.claim-index none) in
-    refuses_more {p = TermOverflows (asserted_term said)} {q = SomeOverflows (map asserted_term (map asserts claims))} n n c.in_err-root.field-0.0 (omega arith)
+    let conditions = c.args.conditions.now in
+    let claim = get_or claims c.loop-claim.claim-index none in
+    let said = asserts claim in
+    refuses_more {p = TermOverflows (asserted_term said)} {q = SomeOverflows (map asserted_term (map asserts claims))} (AnyRootLacks n m (factors_of conditions claim.condition) claim.claimed)
+    (AnyClaimsLack n m conditions claims) c.in_err-root.field-0.0
+    (λ i t h. at_some {A = Claim} (λ k x. AnyRootLacks n m (factors_of conditions x.condition) x.claimed i t) claims c.loop-claim.claim-index none c.loop-claim-test.true h)
     (overflows_asserted asserts claims c.loop-claim.claim-index none c.loop-claim-test.true) refused)
 
 pub loop-claim-preserved : goal.loop-claim-preserved

@@ -1,6 +1,7 @@
-use Rattle.std.proofs.Common.{◌+◌, ◌++◌, ◌∷◌, [], ◌∙◌, ap, length, max, subst, sym, take, arith}
+use Rattle.std.proofs.Common.{◌+◌, ◌++◌, ◌∷◌, [], ◌∙◌, ap, length, refl, subst, sym, take}
 use Rattle.std.proofs.lemmas.List.{length_push}
 use Rattle.std.proofs.lemmas.List.Elements.{All-push}
+use Rattle.std.proofs.lemmas.Option.{slice_get_read}
 use Rattle.std.proofs.lemmas.Result.{err_from_is_err_and}
 use Rattle.std.proofs.lemmas.Slice.Zip.{all_zipped_more}
 use Rattle.std.specs.List.{AllZip}
@@ -9,8 +10,9 @@ use Rattle.air_symbolic.specs.Pools.{PoolHas, PoolMeans}
 use Rattle.air_symbolic.specs.laws.ExtPool.{ext_pool_laws, ext_keeps_base}
 use Rattle.air_draft.specs.DraftTerms.{term_at}
 use Rattle.air_draft.specs.ExtDraftTerms.{ext_step_term, ext_step_terms}
+use Rattle.air_draft.specs.Numbers.{ExtStepLacks, ExtStepsLack}
 use Rattle.air_draft.proofs.NumberedTerms.{all_mean_still, base_mean_still, terms_after-more}
-use Rattle.air_draft.proofs.Refusing.{refuses_more, max-le_max, overflows_step}
+use Rattle.air_draft.proofs.Refusing.{refuses_more, overflows_step}
 use Rattle.air_draft.proofs.ext_steps.make_ext_steps.Goals as goal
 
 pub make_ext_step-requires-clause-base_in : goal.make_ext_step-requires-clause-base_in
@@ -30,14 +32,15 @@ returns-in_err-id-clause-refused g c =
     let base = c.args.base.now in
     let i = c.loop-step.step-index in
     let h = c.loop-step.invariant in
-    let long = ap length c.deref.ensures.value in
-    let m = length c.deref.result.now in
-    let n = length steps in
+    let long = ap length c.deref.ensures.value ∙ h.long in
     let b = length base in
+    let step = c.step-item.result in
+    let here = slice_get_read steps (length steps) i step refl c.loop-step-test.true c.step-item.is in
     rw (p.1, p.2) (λ bs all.
     let term = ext_step_term basis (term_at bs) in
     let refused = c.in_err-id.ensures.refused bs (ext_step_terms basis (term_at bs) (take i steps)) (rw c.deref.ensures.value (h.made bs all)) in
-    refuses_more (max b m) (max b n) _ (max-le_max b m n (omega (arith, long, h.long, c.loop-step-test.true)))
+    refuses_more (ExtStepLacks b (length c.deref.result.now) step) (ExtStepsLack b steps) _
+    (λ index total h. (i, step, here, subst (λ j. ExtStepLacks b j step index total) long h))
     (overflows_step term steps i c.step-item.result c.step-item.result c.loop-step-test.true c.step-item.is) refused)
 
 pub returns-in_err-id-clause-grown : goal.returns-in_err-id-clause-grown

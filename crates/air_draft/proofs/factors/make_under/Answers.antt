@@ -1,4 +1,4 @@
-use Rattle.std.proofs.Common.{◌+◌, get_or, length, subst, sym, take, arith}
+use Rattle.std.proofs.Common.{◌+◌, get_or, length, subst, sym, take}
 use Rattle.std.proofs.lemmas.List.{take_all}
 use Rattle.std.proofs.lemmas.Result.{err_from_is_err_and}
 use Rattle.air_field.specs.Part.{Part}
@@ -11,8 +11,9 @@ use Rattle.air_symbolic.specs.laws.Pools.{pool_laws}
 use Rattle.air_draft.specs.DraftTerms.{term_at, factor_term, under_conditions}
 use Rattle.air_draft.specs.Making.{TermOverflows}
 use Rattle.air_draft.specs.declared.claim.Factor.TheVariants.{FirstRow}
+use Rattle.air_draft.specs.Numbers.{Lacks, factor_names, factors_name}
 use Rattle.air_draft.proofs.NumberedTerms.{all_mean_still, under_conditions-more}
-use Rattle.air_draft.proofs.Refusing.{refuses_more, Part-under_first}
+use Rattle.air_draft.proofs.Refusing.{at_some, refuses_more, Part-under_first}
 use Rattle.air_draft.proofs.factors.make_under.Goals as goal
 
 pub times_factor-requires-clause-all_in : goal.times_factor-requires-clause-all_in
@@ -62,5 +63,6 @@ returns-in_err-all-clause-refused g c =
     let more = under_conditions-more at factors i t c.loop-factor-test.true in
     let part = subst (λ u. Part u last) more (Part-under_first at factors (i + 1) t) in
     let then = all_mean_still laws _ _ c.args.made.now ts h.grown all in
-    refuses_more {p = TermOverflows now} {q = TermOverflows last} n n _ (omega arith) (λ over. laws.refuses_whole DegreeOverflow now last part over)
+    refuses_more {p = TermOverflows now} {q = TermOverflows last} (Lacks n (factor_names item)) (Lacks n (factors_name factors)) _
+    (λ index total h. (at_some (λ k c. factor_names c index) factors i FirstRow c.loop-factor-test.true h.0, h.1, h.2)) (λ over. laws.refuses_whole DegreeOverflow now last part over)
     (c.in_err-all.ensures.refused ts _ then (h.made ts t all m)))

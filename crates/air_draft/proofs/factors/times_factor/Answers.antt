@@ -6,6 +6,7 @@ use Rattle.air_symbolic.specs.PoolRefusals.{PoolRefuses}
 use Rattle.air_symbolic.specs.laws.BaseLeaves.{base_leaf_laws}
 use Rattle.air_symbolic.specs.laws.Pools.{pool_laws}
 use Rattle.air_draft.specs.DraftTerms.{term_at, factor_term}
+use Rattle.air_draft.specs.Numbers.{Lacks, factor_names}
 use Rattle.air_draft.proofs.Refusing.{ring_refuses}
 use Rattle.air_draft.proofs.factors.times_factor.Goals as goal
 
@@ -15,7 +16,7 @@ returns-in_err-product-clause-refused g c =
     let laws = pool_laws ring base_reads base_grows tt (base_leaf_laws ring) in
     let p = err_from_is_err_and c.from_residual-in_err-product.result c.from_residual-in_err-product.ensures.1 in
     rw (p.1, p.2) (λ ts t all m.
-    ring_refuses PoolRefuses (length c.args.made.now) _ (mul_term (factor_term (term_at ts) c.args.factor) t)
+    ring_refuses PoolRefuses (Lacks (length c.args.made.now) (factor_names c.args.factor)) _ (mul_term (factor_term (term_at ts) c.args.factor) t)
     (c.in_err-product.ensures.refused _ _ (c.in_ok-left.ensures.made.1 ts all) (laws.means_stays _ _ _ _ c.make_factor.ensures.grown m)))
 
 pub returns-clause-made : goal.returns-clause-made

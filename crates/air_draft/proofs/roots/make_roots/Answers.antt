@@ -1,14 +1,15 @@
-use Rattle.std.proofs.Common.{None, length, map, take, arith}
+use Rattle.std.proofs.Common.{None, get_or, length, map, take}
 use Rattle.std.proofs.lemmas.Result.{err_from_is_err_and}
 use Rattle.air_symbolic.specs.BaseLeaves.{base_reads, base_grows}
 use Rattle.air_symbolic.specs.Pools.{PoolMeans}
 use Rattle.air_symbolic.specs.laws.BaseLeaves.{base_leaf_laws}
 use Rattle.air_symbolic.specs.laws.Pools.{pool_laws}
-use Rattle.air_draft.specs.DraftTerms.{term_at, claim_term}
+use Rattle.air_draft.specs.DraftTerms.{term_at, claim_term, factors_of}
 use Rattle.air_draft.specs.declared.claim.Claim.{Claim}
 use Rattle.air_draft.specs.declared.claim.Claimed.TheVariants.{Zero}
+use Rattle.air_draft.specs.Numbers.{RootLacks, ClaimsLack}
 use Rattle.air_draft.proofs.NumberedTerms.{AllZip-more, all_mean_still}
-use Rattle.air_draft.proofs.Refusing.{refuses_more, overflows_map}
+use Rattle.air_draft.proofs.Refusing.{at_some, refuses_more, overflows_map}
 use Rattle.air_draft.proofs.roots.make_roots.Goals as goal
 
 pub returns-in_err-root-clause-refused : goal.returns-in_err-root-clause-refused
@@ -22,7 +23,12 @@ returns-in_err-root-clause-refused g c =
     let terms = claim_term g.F.Field.ONE (term_at ts) c.args.conditions.now in
     let then = all_mean_still laws _ _ c.args.made.now ts c.loop-claim.invariant.grown all in
     let refused = rw c.factors_of-factors.ensures at (c.in_err-root.ensures.refused ts then) in
-    refuses_more n n _ (omega arith) (overflows_map terms c.args.claims.now c.loop-claim.claim-index none c.loop-claim-test.true) refused)
+    let claims = c.args.claims.now in
+    let conditions = c.args.conditions.now in
+    let claim = get_or claims c.loop-claim.claim-index none in
+    refuses_more (RootLacks n (factors_of conditions claim.condition) claim.claimed) (ClaimsLack n conditions claims) _
+    (λ i t h. at_some {A = Claim} (λ k x. RootLacks n (factors_of conditions x.condition) x.claimed i t) claims c.loop-claim.claim-index none c.loop-claim-test.true h)
+    (overflows_map terms c.args.claims.now c.loop-claim.claim-index none c.loop-claim-test.true) refused)
 
 pub loop-claim-preserved : goal.loop-claim-preserved
 loop-claim-preserved g c =

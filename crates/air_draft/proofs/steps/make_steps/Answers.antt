@@ -1,4 +1,4 @@
-use Rattle.std.proofs.Common.{◌≤◌, ◌+◌, ◌++◌, ◌∷◌, [], ◌∙◌, ap, get_or, length, max, refl, subst, sym, take, arith}
+use Rattle.std.proofs.Common.{◌+◌, ◌++◌, ◌∷◌, [], ◌∙◌, ap, get_or, length, refl, subst, sym, take}
 use Rattle.std.proofs.lemmas.List.{length_push}
 use Rattle.std.proofs.lemmas.Result.{err_from_is_err_and}
 use Rattle.std.proofs.lemmas.Slice.Zip.{all_zipped_more}
@@ -11,8 +11,9 @@ use Rattle.air_core.specs.declared.variables.entry.BaseEntry.TheVariants.{Prepro
 use Rattle.air_draft.specs.declared.step.Step.{Step}
 use Rattle.air_draft.specs.declared.step.Step.TheVariants.{Variable}
 use Rattle.air_draft.specs.DraftTerms.{term_at, step_term, terms_after}
+use Rattle.air_draft.specs.Numbers.{StepLacks, StepsLack}
 use Rattle.air_draft.proofs.NumberedTerms.{All-beside, all_mean_still, terms_after-more}
-use Rattle.air_draft.proofs.Refusing.{refuses_more, max_left-le_max, overflows_step}
+use Rattle.air_draft.proofs.Refusing.{at_some, refuses_more, overflows_step}
 use Rattle.air_draft.proofs.steps.make_steps.Goals as goal
 
 pub make_step-requires-clause-all_in : goal.make_step-requires-clause-all_in
@@ -30,13 +31,12 @@ returns-in_err-id-clause-refused g c =
     let constants = c.args.constants.now in
     let term = step_term g.F.Field.ring g.F.Field.ONE constants in
     let refused = c.in_err-id.ensures.refused (terms_after term [] (take i steps)) (rw c.deref.ensures.value c.loop-step.invariant.made) in
-    let long = ap length c.deref.ensures.value in
-    let m = length c.deref.result.now in
-    let n = length steps in
+    let long = ap length c.deref.ensures.value ∙ c.loop-step.invariant.long in
     let k = length constants in
-    let before : m ≤ n = omega (arith, long, c.loop-step.invariant.long, c.loop-step-test.true) in
+    let step = get_or steps i none in
     rw (p.1, p.2)
-    (refuses_more (max m k) (max n k) _ (max_left-le_max m n k before)
+    (refuses_more (StepLacks k (length c.deref.result.now) step) (StepsLack k steps) _
+    (λ index total h. at_some (λ j s. StepLacks k j s index total) steps i none c.loop-step-test.true (subst (λ j. StepLacks k j step index total) long h))
     (overflows_step term steps i none (get_or steps i none) c.loop-step-test.true refl) refused)
 
 pub returns-in_err-push-clause-grown : goal.returns-in_err-push-clause-grown

@@ -1,12 +1,12 @@
-use Rattle.std.proofs.Common.{◌≤◌, length, arith}
-use Rattle.std.proofs.Math.Nat.{le-max_left}
+use Rattle.std.proofs.Common.{◌≡◌, ℕ, inl, inr, length, subst, arith}
 use Rattle.std.proofs.lemmas.Result.{err_from_is_err_and}
 use Rattle.std.proofs.lemmas.Slice.Zip.{AllZip-long}
 use Rattle.air_symbolic.specs.BaseLeaves.{base_reads}
 use Rattle.air_symbolic.specs.Pools.{PoolMeans, PoolHas}
 use Rattle.air_draft.specs.DraftTerms.{step_term, step_terms}
 use Rattle.air_draft.specs.Making.{SomeOverflows}
-use Rattle.air_draft.specs.Drafts.{draft_terms, claim_terms, number_bound, DraftOverflows}
+use Rattle.air_draft.specs.Drafts.{draft_terms, claim_terms, DraftLacks, DraftOverflows}
+use Rattle.air_draft.specs.Numbers.{StepsLack, ClaimsLack}
 use Rattle.air_draft.proofs.NumberedTerms.{All-beside, terms-length}
 use Rattle.air_draft.proofs.Refusing.{refuses_more, overflows_left, overflows_right}
 use Rattle.air_draft.proofs.draft.Draft.make.Goals as goal
@@ -26,11 +26,11 @@ returns-in_err-made-clause-refused g c =
     let d = c.args.self.now in
     let e = c.in_err-made.field-0.0 in
     let terms = draft_terms ring one d in
-    let n = number_bound d in
     let p = err_from_is_err_and c.from_residual.result c.from_residual.ensures.1 in
     let refused = rw (c.deref.ensures.value, c.deref-2.ensures.value) at c.in_err-made.ensures.refused in
     rw (p.1, p.2)
-    (refuses_more {p = SomeOverflows terms} {q = DraftOverflows ring one d} n n e (omega arith)
+    (refuses_more {p = SomeOverflows terms} {q = DraftOverflows ring one d} (StepsLack (length d.fixed.constants.items) d.steps.items) (DraftLacks d) e
+    (λ i t h. inl h)
     (overflows_left terms (claim_terms ring one d)) refused)
 
 pub returns-in_err-roots-clause-refused : goal.returns-in_err-roots-clause-refused
@@ -47,11 +47,13 @@ returns-in_err-roots-clause-refused g c =
     let means = rw (c.deref.ensures.value, c.deref-2.ensures.value) at c.in_ok-made.ensures.made in
     let long = AllZip-long _ made terms means in
     let count = terms-length (step_term ring one constants) steps in
-    let within : length made ≤ number_bound d = omega (arith, long, count, le-max_left (length steps) (length constants)) in
+    let all : length made ≡ length steps = omega (arith, long, count) in
+    let lacks : ℕ → ℕ → ℕ → Type 0 = λ k i t. ClaimsLack k d.notes.conditions.items d.notes.claims.items i t in
     let refused = rw (c.deref-3.ensures.value, c.deref-4.ensures.value, c.deref-5.ensures.value)
     at (c.in_err-roots.ensures.refused terms (rw c.deref-3.ensures.value means)) in
     rw (p.1, p.2)
-    (refuses_more {p = SomeOverflows (claim_terms ring one d)} {q = DraftOverflows ring one d} (length made) (number_bound d) e within
+    (refuses_more {p = SomeOverflows (claim_terms ring one d)} {q = DraftOverflows ring one d} (lacks (length made)) (DraftLacks d) e
+    (λ i t h. inr (subst (λ k. lacks k i t) all h))
     (overflows_right terms (claim_terms ring one d)) refused)
 
 pub returns-in_err-labels-clause-refused : goal.returns-in_err-labels-clause-refused

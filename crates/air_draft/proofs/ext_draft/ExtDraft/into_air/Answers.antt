@@ -2,7 +2,7 @@ use Rattle.std.proofs.Common.{inr, rules}
 use Rattle.std.proofs.lemmas.Result.{err_from_is_err_and}
 use Rattle.air_audit.specs.FlatExtAirs.{RootHere}
 use Rattle.air_draft.specs.ExtRoots.{RootMeans}
-use Rattle.air_draft.specs.ExtDrafts.{ext_declared_by, ExtDraftOverflows, ext_number_bound}
+use Rattle.air_draft.specs.ExtDrafts.{ext_declared_by, ExtDraftLacks, ExtDraftOverflows}
 use Rattle.air_draft.proofs.NumberedTerms.{All-beside}
 use Rattle.air_draft.proofs.Recording.{records_roots, root_here, flat_refused}
 use Rattle.air_draft.proofs.ext_draft.ExtDraft.into_air.Goals as goal
@@ -27,7 +27,7 @@ returns-in_err-air-clause-refused g c =
     rw (p.1, p.2)
     (inr (
       search rules,
-      flat_refused (ext_number_bound d) (ExtDraftOverflows g.F.Field.ring g.F.Field.ONE basis d) c.in_err-air.field-0.0
+      flat_refused (ExtDraftLacks d) (ExtDraftOverflows g.F.Field.ring g.F.Field.ONE basis d) c.in_err-air.field-0.0
           basis made.pool made.roots.items c.in_err-air.ensures.refused,
     ))
 

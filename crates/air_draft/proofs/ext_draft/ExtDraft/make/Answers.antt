@@ -1,5 +1,4 @@
-use Rattle.std.proofs.Common.{◌≤◌, length, map, max, arith}
-use Rattle.std.proofs.Math.Nat.{le-max_left, le-max_right, max-le}
+use Rattle.std.proofs.Common.{◌≡◌, ℕ, inl, inr, length, map, subst, arith}
 use Rattle.std.proofs.lemmas.Result.{err_from_is_err_and}
 use Rattle.std.proofs.lemmas.Slice.Zip.{AllZip-long}
 use Rattle.air_symbolic.specs.ExtLeaves.{ext_reads}
@@ -9,8 +8,8 @@ use Rattle.air_symbolic.specs.laws.ExtPool.{ext_keeps_base, base_lent_from}
 use Rattle.air_draft.specs.DraftTerms.{term_at, step_term, step_terms}
 use Rattle.air_draft.specs.ExtDraftTerms.{ext_step_term, ext_step_terms, asserted_term}
 use Rattle.air_draft.specs.Making.{SomeOverflows}
-use Rattle.air_draft.specs.Drafts.{number_bound}
-use Rattle.air_draft.specs.ExtDrafts.{base_terms_of, ext_terms_of, ext_declared_by, ExtDraftOverflows}
+use Rattle.air_draft.specs.ExtDrafts.{base_terms_of, ext_terms_of, ext_declared_by, ExtDraftLacks, ExtDraftOverflows}
+use Rattle.air_draft.specs.Numbers.{StepsLack, ExtStepsLack, AnyClaimsLack}
 use Rattle.air_draft.proofs.NumberedTerms.{All-beside, base_meant, base_mean_still, terms-length}
 use Rattle.air_draft.proofs.Refusing.{refuses_more, overflows_left, overflows_right}
 use Rattle.air_draft.proofs.ext_draft.ExtDraft.make.Goals as goal
@@ -66,12 +65,11 @@ returns-in_err-base-clause-refused g c =
     let basis = g.EF.ExtensionField.basis in
     let d = c.args.self.now in
     let e = c.in_err-base.field-0.0 in
-    let n = number_bound d.base in
-    let m = length d.steps.items in
     let p = err_from_is_err_and c.from_residual.result c.from_residual.ensures.1 in
     let refused = rw (c.deref.ensures.value, c.deref-2.ensures.value) at c.in_err-base.ensures.refused in
     rw (p.1, p.2)
-    (refuses_more {p = SomeOverflows (base_terms_of ring one d)} {q = ExtDraftOverflows ring one basis d} n (max n m) e (le-max_left n m)
+    (refuses_more {p = SomeOverflows (base_terms_of ring one d)} {q = ExtDraftOverflows ring one basis d} (StepsLack (length d.base.fixed.constants.items) d.base.steps.items)
+    (ExtDraftLacks d) e (λ i t h. inl h)
     (overflows_left (base_terms_of ring one d) _) refused)
 
 pub returns-in_err-made-clause-refused : goal.returns-in_err-made-clause-refused
@@ -81,8 +79,6 @@ returns-in_err-made-clause-refused g c =
     let basis = g.EF.ExtensionField.basis in
     let d = c.args.self.now in
     let e = c.in_err-made.field-0.0 in
-    let n = number_bound d.base in
-    let m = length d.steps.items in
     let q = on_base c.new-pool.result c.make_steps.new.pool in
     let lent = base_lent_from g.met.EF.ExtensionField.laws c.new-pool.result c.base_mut.result.now c.make_steps.new.pool
     c.base_mut.ensures.value c.make_steps.ensures.grown in
@@ -92,14 +88,14 @@ returns-in_err-made-clause-refused g c =
     let meant = base_meant ring basis q base terms (lent.pool c.new-pool.ensures.pool) means in
     let long = AllZip-long _ base terms means in
     let count = terms-length (step_term ring one d.base.fixed.constants.items) d.base.steps.items in
-    let below = le-max_left (length d.base.steps.items) (length d.base.fixed.constants.items) in
-    let within : max (length base) m ≤ max n m = max-le (omega (arith, long, count, below, le-max_left n m)) (le-max_right n m) in
+    let all : length base ≡ length d.base.steps.items = omega (arith, long, count) in
     let p = err_from_is_err_and c.from_residual-in_err-made.result c.from_residual-in_err-made.ensures.1 in
     let refused = rw (c.deref-3.ensures.value, c.deref-4.ensures.value) at (c.in_err-made.ensures.refused terms (rw c.deref-3.ensures.value meant)) in
     let over = ext_terms_of ring one basis d in
     let claims = map asserted_term (ext_declared_by ring one basis d) in
     rw (p.1, p.2)
-    (refuses_more {p = SomeOverflows over} {q = ExtDraftOverflows ring one basis d} (max (length base) m) (max n m) e within
+    (refuses_more {p = SomeOverflows over} {q = ExtDraftOverflows ring one basis d} (ExtStepsLack (length base) d.steps.items) (ExtDraftLacks d) e
+    (λ i t h. inr (inl (subst (λ k. ExtStepsLack k d.steps.items i t) all h)))
     (λ h. overflows_right terms _ (overflows_left over claims h)) refused)
 
 pub returns-in_err-roots-clause-refused : goal.returns-in_err-roots-clause-refused
@@ -109,8 +105,6 @@ returns-in_err-roots-clause-refused g c =
     let basis = g.EF.ExtensionField.basis in
     let d = c.args.self.now in
     let e = c.in_err-roots.field-0.0 in
-    let n = number_bound d.base in
-    let m = length d.steps.items in
     let first = on_base c.new-pool.result c.make_steps.new.pool in
     let q = c.make_ext_steps.new.pool in
     let lent = base_lent_from g.met.EF.ExtensionField.laws c.new-pool.result c.base_mut.result.now c.make_steps.new.pool
@@ -125,17 +119,18 @@ returns-in_err-roots-clause-refused g c =
     let over_means = rw c.deref-4.ensures.value at (c.in_ok-made.ensures.made terms (rw c.deref-3.ensures.value meant)) in
     let long = AllZip-long _ base terms means in
     let count = terms-length (step_term ring one d.base.fixed.constants.items) d.base.steps.items in
-    let below = le-max_left (length d.base.steps.items) (length d.base.fixed.constants.items) in
     let over_long = AllZip-long _ made over over_means in
     let over_count = terms-length (ext_step_term basis (term_at terms)) d.steps.items in
-    let within : max (length base) (length made) ≤ max n m =
-    max-le (omega (arith, long, count, below, le-max_left n m)) (omega (arith, over_long, over_count, le-max_right n m)) in
+    let all : length base ≡ length d.base.steps.items = omega (arith, long, count) in
+    let all_over : length made ≡ length d.steps.items = omega (arith, over_long, over_count) in
+    let lacks : ℕ → ℕ → ℕ → ℕ → Type 0 = λ k l i t. AnyClaimsLack k l d.base.notes.conditions.items d.base.notes.claims.items i t in
     let p = err_from_is_err_and c.from_residual-in_err-roots.result c.from_residual-in_err-roots.ensures.1 in
     let refused = rw (c.deref-5.ensures.value, c.deref-6.ensures.value, c.deref-7.ensures.value, c.deref-8.ensures.value)
     at (c.in_err-roots.ensures.refused terms over (rw c.deref-5.ensures.value then) (rw c.deref-6.ensures.value over_means)) in
     let claims = map asserted_term (ext_declared_by ring one basis d) in
     rw (p.1, p.2)
-    (refuses_more {p = SomeOverflows claims} {q = ExtDraftOverflows ring one basis d} (max (length base) (length made)) (max n m) e within
+    (refuses_more {p = SomeOverflows claims} {q = ExtDraftOverflows ring one basis d} (lacks (length base) (length made)) (ExtDraftLacks d) e
+    (λ i t h. inr (inr (subst (λ k. lacks k (length d.steps.items) i t) all (subst (λ l. lacks (length base) l i t) all_over h))))
     (λ h. overflows_right terms _ (overflows_right over claims h)) refused)
 
 pub returns-clause-pool : goal.returns-clause-pool
