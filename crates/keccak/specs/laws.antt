@@ -1,0 +1,2 @@
+-- Laws of the definitions in specs/.
+pub mod Constants
