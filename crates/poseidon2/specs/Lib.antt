@@ -1,0 +1,4 @@
+pub mod Groups
+pub mod Permutation
+pub mod Blocks
+pub mod laws
